@@ -1,0 +1,36 @@
+-- The numbers of the causes, as the scope's table "Causes and their numbers" gives them.
+use Prim.Native.Nat.{ℕ}
+use Rattle.causes.specs.declared.Cause.{Cause}
+use Rattle.causes.specs.declared.Cause.the-variants.{Sides, PictureLength, Attribute, Steps, Workspace, Output, Buffer, Sign, Header, Maximum, RasterLength, Sample, StepsFile, TooLarge, NotRead}
+
+abbrev pub number-of : Cause → ℕ
+-- width or height outside 1..4,096, or n above 1,048,576
+number-of Sides = 1
+-- picture bytes not n
+number-of PictureLength = 2
+-- attribute not 1, 2 or 3
+number-of Attribute = 3
+-- threshold out of range, list empty, over 256 or not strictly rising
+number-of Steps = 4
+-- workspace not 6n words
+number-of Workspace = 5
+-- an output not n entries
+number-of Output = 6
+-- writer's buffer below the bytes needed
+number-of Buffer = 7
+-- file does not start with P5
+number-of Sign = 8
+-- header broken or ended early
+number-of Header = 9
+-- maximum 0 or above 255
+number-of Maximum = 10
+-- raster bytes not n
+number-of RasterLength = 11
+-- a sample above the maximum
+number-of Sample = 12
+-- steps file malformed
+number-of StepsFile = 13
+-- program: a file above 4,096 bytes, or n above 2,048
+number-of TooLarge = 14
+-- program: a file not opened or read
+number-of NotRead = 15

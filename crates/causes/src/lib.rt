@@ -1,0 +1,63 @@
+// The causes for which a call refuses its input, each with its number, and the bounds on a picture's sides that every call shares.
+ghost use mathlib.Core.Path.{_≡_};
+ghost use Rattle.causes.specs.Causes.{number-of};
+ghost use Rattle.causes.specs.Sides.{sides-fit};
+
+pub enum Cause {
+    Sides,
+    PictureLength,
+    Attribute,
+    Steps,
+    Workspace,
+    Output,
+    Buffer,
+    Sign,
+    Header,
+    Maximum,
+    RasterLength,
+    Sample,
+    StepsFile,
+    TooLarge,
+    NotRead,
+}
+
+pub fn number(cause: Cause) -> u32
+    ensures { λ r. ⌜ r ≡ number-of cause ⌝ }
+{
+    match cause {
+        Cause::Sides => 1,
+        Cause::PictureLength => 2,
+        Cause::Attribute => 3,
+        Cause::Steps => 4,
+        Cause::Workspace => 5,
+        Cause::Output => 6,
+        Cause::Buffer => 7,
+        Cause::Sign => 8,
+        Cause::Header => 9,
+        Cause::Maximum => 10,
+        Cause::RasterLength => 11,
+        Cause::Sample => 12,
+        Cause::StepsFile => 13,
+        Cause::TooLarge => 14,
+        Cause::NotRead => 15,
+    }
+}
+
+// Whether a picture may have these sides. Each side is tested before the two are multiplied.
+pub fn fit(width: u32, height: u32) -> bool
+    ensures { λ r. ⌜ r ≡ sides-fit width height ⌝ }
+{
+    if width < 1 {
+        return false;
+    }
+    if 4096 < width {
+        return false;
+    }
+    if height < 1 {
+        return false;
+    }
+    if 4096 < height {
+        return false;
+    }
+    width * height <= 1048576
+}

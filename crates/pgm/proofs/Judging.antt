@@ -1,0 +1,231 @@
+-- How the tests of the reader and of the writer decide their answers, and what an accepted file and an accepted picture give.
+use Prim.Native.Nat.{ℕ, _+_, _*_, _-_, _≤_, _<_}
+use mathlib.Core.Path.{_≡_, refl, sym, _∙_, ap}
+use mathlib.Core.Bool.{Bool, true, false}
+use mathlib.Core.List.{List, [], _∷_, _++_}
+use native.Mathlib.Nat.{add-sub-cancel-left}
+use native.Mathlib.Omega.{arith}
+use lib.Dec.{leb, eqb}
+use lib.ListN.{length, take, drop, length-drop}
+use lib.Seq.{take-all, sets}
+use borrow.Author.Tests.{le-leb, lt-leb, leb-true, eq-eqb, ne-eqb, eqb-true}
+use Rattle.causes.specs.declared.Cause.{Cause}
+use Rattle.causes.specs.declared.Cause.the-variants.{Sides, PictureLength, Buffer, Sign, Header as BadHeader, Maximum, RasterLength, Sample}
+use Rattle.causes.specs.Sides.{sides-fit}
+use Rattle.causes.proofs.Laws.{both-true, Fitting, fitting}
+use Rattle.pgm.specs.Samples.{largest, all-at-most}
+use Rattle.pgm.specs.Header.{starts-with-sign, header-at}
+use Rattle.pgm.specs.Read.{must, maximum-fits, judged, read-answer, raster-of}
+use Rattle.pgm.specs.Write.{must as must-write, pgm-file, write-answer, buffer-after, Fields}
+use Rattle.pgm.specs.declared.header.Header.{Header}
+use Rattle.pgm.specs.declared.header.Header.the-variants.{Read, Broken}
+use Rattle.pgm.specs.declared.Found.{Found}
+use Rattle.pgm.specs.declared.Found.the-variants.{Picture, Refused}
+use Rattle.pgm.specs.declared.Written.{Written}
+use Rattle.pgm.specs.declared.Written.the-variants.{Bytes, Refused as NotWritten}
+use Rattle.pgm.proofs.Files.{file-first}
+use Rattle.pgm.proofs.Stores.{all-at-most-largest}
+
+-- the samples' test by the largest of them
+pub samples-within : (maximum : ℕ) (s : List ℕ) (most : ℕ) → most ≡ largest s → most ≤ maximum → all-at-most maximum s ≡ true
+samples-within maximum s most e h = all-at-most-largest maximum s ∙ le-leb (largest s) maximum (omega arith)
+
+pub samples-above : (maximum : ℕ) (s : List ℕ) (most : ℕ) → most ≡ largest s → maximum < most → all-at-most maximum s ≡ false
+samples-above maximum s most e h = all-at-most-largest maximum s ∙ lt-leb (largest s) maximum (omega arith)
+
+pub judged-broken : (file : List ℕ) → Refused BadHeader ≡ judged file Broken
+unfolding judged
+judged-broken file = refl
+
+-- the part from a position to the end
+pub to-end : (l : List ℕ) (start : ℕ) → take (length l - start) (drop start l) ≡ drop start l
+to-end l start = take-all (length l - start) (drop start l) (omega (arith, length-drop start l))
+
+-- the raster's bytes, counted from where it starts
+pub none-follow : (total start n : ℕ) → total < start → 1 ≤ n → false ≡ eqb (total - start) n
+none-follow total start n h one = sym (ne-eqb (total - start) n (omega arith))
+
+pub some-pixels : (width height n : ℕ) → sides-fit width height ≡ true → n ≡ width * height → 1 ≤ n
+some-pixels width height n fit e = omega (arith, fitting width height fit .some-pixel)
+
+pub starts-within : (total start n : ℕ) → 1 ≤ n → eqb (total - start) n ≡ true → start ≤ total
+starts-within total start n one e = omega (arith, eqb-true (total - start) n e)
+
+module _ (file : List ℕ) (width height maximum start : ℕ) where
+  pub judged-maximum : maximum-fits maximum ≡ false → Refused Maximum ≡ judged file (Read width height maximum start)
+  unfolding judged
+  judged-maximum a = simp a
+
+  module _ (a : maximum-fits maximum ≡ true) where
+    pub judged-sides : sides-fit width height ≡ false → Refused Sides ≡ judged file (Read width height maximum start)
+    unfolding judged
+    judged-sides b = simp (a, b)
+
+    module _ (b : sides-fit width height ≡ true) where
+      pub judged-length : eqb (length file - start) (width * height) ≡ false → Refused RasterLength ≡ judged file (Read width height maximum start)
+      unfolding judged
+      judged-length c = simp (a, b, c)
+
+      module _ (c : eqb (length file - start) (width * height) ≡ true) where
+        pub judged-sample : all-at-most maximum (drop start file) ≡ false → Refused Sample ≡ judged file (Read width height maximum start)
+        unfolding judged
+        judged-sample d = simp (a, b, c, d)
+
+        pub judged-picture : all-at-most maximum (drop start file) ≡ true → Picture width height maximum start ≡ judged file (Read width height maximum start)
+        unfolding judged
+        judged-picture d = simp (a, b, c, d)
+
+pub read-signed : (file : List ℕ) → starts-with-sign file ≡ true → judged file (header-at file 2) ≡ read-answer file
+unfolding read-answer
+read-signed file e = simp e
+
+pub read-unsigned : (file : List ℕ) → starts-with-sign file ≡ false → Refused Sign ≡ read-answer file
+unfolding read-answer
+read-unsigned file e = simp e
+
+pub fields-fit : (width height maximum : ℕ) → sides-fit width height ≡ true → maximum-fits maximum ≡ true → Fields width height maximum
+fields-fit width height maximum sides most =
+    let f = fitting width height sides in
+    let m = leb-true maximum 255 (both-true (leb 1 maximum) (leb maximum 255) most .1) in
+    record { width-fits = omega arith; height-fits = omega arith; maximum-fits = omega arith }
+
+module _ (picture : List ℕ) (width height maximum room : ℕ) where
+  pub unwritable-sides : sides-fit width height ≡ false → NotWritten Sides ≡ write-answer picture width height maximum room
+  unfolding write-answer
+  unwritable-sides a = simp a
+
+  module _ (a : sides-fit width height ≡ true) where
+    pub unwritable-length : (length picture ≡ width * height → ⊥) → NotWritten PictureLength ≡ write-answer picture width height maximum room
+    unfolding write-answer
+    unwritable-length b = simp (a, ne-eqb (length picture) (width * height) b)
+
+    module _ (b : length picture ≡ width * height) where
+      pub unwritable-maximum : maximum-fits maximum ≡ false → NotWritten Maximum ≡ write-answer picture width height maximum room
+      unfolding write-answer
+      unwritable-maximum c = simp (a, eq-eqb (length picture) (width * height) b, c)
+
+      module _ (c : maximum-fits maximum ≡ true) where
+        pub unwritable-sample : all-at-most maximum picture ≡ false → NotWritten Sample ≡ write-answer picture width height maximum room
+        unfolding write-answer
+        unwritable-sample d = simp (a, eq-eqb (length picture) (width * height) b, c, d)
+
+        module _ (d : all-at-most maximum picture ≡ true) (total : ℕ) (e : total ≡ length (pgm-file picture width height maximum)) where
+          pub unwritable-room : room < total → NotWritten Buffer ≡ write-answer picture width height maximum room
+          unfolding write-answer
+          unwritable-room f =
+              simp (
+                a,
+                eq-eqb (length picture) (width * height) b,
+                c,
+                d,
+                lt-leb (length (pgm-file picture width height maximum)) room (omega arith),
+              )
+
+          pub writable-bytes : total ≤ room → Bytes total ≡ write-answer picture width height maximum room
+          unfolding write-answer
+          writable-bytes f =
+              simp (
+                a,
+                eq-eqb (length picture) (width * height) b,
+                c,
+                d,
+                le-leb (length (pgm-file picture width height maximum)) room (omega arith),
+                e,
+              )
+
+-- what an accepted file gives: the sign, the whole header, and what was judged of it
+pub record Accepted (file : List ℕ) (width height maximum start : ℕ) : Type 0 where
+  pub signed : starts-with-sign file ≡ true
+  pub header : header-at file 2 ≡ Read width height maximum start
+  pub maximum-right : maximum-fits maximum ≡ true
+  pub sides-right : sides-fit width height ≡ true
+  pub length-right : length file - start ≡ width * height
+  pub samples-right : all-at-most maximum (drop start file) ≡ true
+
+-- an answer that is a picture has passed every test before it
+passed : (t : Bool) (cause : Cause) (answer : Found) (width height maximum start : ℕ) → must t cause answer ≡ Picture width height maximum start → (t ≡ true) × (answer ≡ Picture width height maximum start)
+passed true cause answer width height maximum start e = (refl, e)
+passed false cause answer width height maximum start e =
+    let z : _≡_ {A = ℕ} 0 1 = cc in absurd (omega arith)
+
+judged-picture-is : (file : List ℕ) (h : Header) (width height maximum start : ℕ) → starts-with-sign file ≡ true → header-at file 2 ≡ h → judged file h ≡ Picture width height maximum start → Accepted file width height maximum start
+unfolding judged
+judged-picture-is file Broken width height maximum start s f g = let z : _≡_ {A = ℕ} 0 1 = cc in absurd (omega arith)
+judged-picture-is file (Read w h m st) width height maximum start s f g =
+    let a = passed (maximum-fits m) Maximum _ width height maximum start g in
+    let b = passed (sides-fit w h) Sides _ width height maximum start (a .1) in
+    let c = passed (eqb (length file - st) (w * h)) RasterLength _ width height maximum start (b .1) in
+    let d = passed (all-at-most m (drop st file)) Sample _ width height maximum start (c .1) in
+    let ew : w ≡ width = cc (d .1) in
+    let eh : h ≡ height = cc (d .1) in
+    let em : m ≡ maximum = cc (d .1) in
+    let es : st ≡ start = cc (d .1) in
+    record {
+      signed = s;
+      header = cc;
+      maximum-right = rw em at (a .0);
+      sides-right = rw (ew, eh) at (b .0);
+      length-right = rw (es, ew, eh) at (eqb-true (length file - st) (w * h) (c .0));
+      samples-right = rw (em, es) at (d .0);
+    }
+
+pub accepted : (file : List ℕ) (width height maximum start : ℕ) → read-answer file ≡ Picture width height maximum start → Accepted file width height maximum start
+unfolding read-answer
+accepted file width height maximum start e =
+    let s = passed (starts-with-sign file) Sign (judged file (header-at file 2)) width height maximum start e in
+    judged-picture-is file (header-at file 2) width height maximum start (s .0) refl (s .1)
+
+pub raster-refused : (file : List ℕ) (cause : Cause) → read-answer file ≡ Refused cause → [] ≡ raster-of file
+raster-refused file cause e = rw e
+
+module _ (file : List ℕ) (width height maximum start n : ℕ) (e : read-answer file ≡ Picture width height maximum start) (pixels : n ≡ width * height) where
+  pub raster-within : start + n ≤ length file
+  raster-within =
+      let a = accepted file width height maximum start e in
+      omega (arith, a .length-right, fitting width height (a .sides-right) .some-pixel)
+
+  pub raster-accepted : take (start + n - start) (drop start file) ≡ raster-of file
+  raster-accepted = rw (e, add-sub-cancel-left start n, pixels)
+
+-- what an accepted picture gives the writer
+pub record Writable (picture : List ℕ) (width height maximum room total : ℕ) : Type 0 where
+  pub sides-right : sides-fit width height ≡ true
+  pub length-right : length picture ≡ width * height
+  pub maximum-right : maximum-fits maximum ≡ true
+  pub samples-right : all-at-most maximum picture ≡ true
+  pub room-right : length (pgm-file picture width height maximum) ≤ room
+  pub total-right : total ≡ length (pgm-file picture width height maximum)
+
+passed-writing : (t : Bool) (cause : Cause) (answer : Written) (total : ℕ) → must-write t cause answer ≡ Bytes total → (t ≡ true) × (answer ≡ Bytes total)
+passed-writing true cause answer total e = (refl, e)
+passed-writing false cause answer total e = let z : _≡_ {A = ℕ} 0 1 = cc in absurd (omega arith)
+
+pub writable-is : (picture : List ℕ) (width height maximum room total : ℕ) → write-answer picture width height maximum room ≡ Bytes total → Writable picture width height maximum room total
+unfolding write-answer
+writable-is picture width height maximum room total e =
+    let file : List ℕ = pgm-file picture width height maximum in
+    let a = passed-writing (sides-fit width height) Sides _ total e in
+    let b = passed-writing (eqb (length picture) (width * height)) PictureLength _ total (a .1) in
+    let c = passed-writing (maximum-fits maximum) Maximum _ total (b .1) in
+    let d = passed-writing (all-at-most maximum picture) Sample _ total (c .1) in
+    let f = passed-writing (leb (length file) room) Buffer _ total (d .1) in
+    record {
+      sides-right = a .0;
+      length-right = eqb-true (length picture) (width * height) (b .0);
+      maximum-right = c .0;
+      samples-right = d .0;
+      room-right = leb-true (length file) room (f .0);
+      total-right = cc (f .1);
+    }
+
+module _ (picture : List ℕ) (width height maximum : ℕ) (buffer : List ℕ) where
+  pub buffer-written : (total : ℕ) → write-answer picture width height maximum (length buffer) ≡ Bytes total → sets buffer 0 (pgm-file picture width height maximum) ≡ buffer-after picture width height maximum buffer
+  unfolding buffer-after
+  buffer-written total e =
+      let w = writable-is picture width height maximum (length buffer) total e in
+      rw e (file-first (pgm-file picture width height maximum) buffer (w .room-right)
+      ∙ ap (λ (k : ℕ). pgm-file picture width height maximum ++ drop k buffer) (sym (w .total-right)))
+
+  pub buffer-kept : (cause : Cause) → write-answer picture width height maximum (length buffer) ≡ NotWritten cause → buffer ≡ buffer-after picture width height maximum buffer
+  unfolding buffer-after
+  buffer-kept cause e = rw e

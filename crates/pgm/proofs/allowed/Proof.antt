@@ -1,0 +1,17 @@
+-- `pgm::allowed` meets its contract. Assumes nothing.
+use borrow.Author.Tests.{le-leb, lt-leb}
+use borrow.Author.Needs.{needs}
+use native.Mathlib.Omega.{arith}
+use Rattle.pgm.proofs.allowed.Statement.{statement}
+use Rattle.pgm.proofs.allowed.Tie as tie
+use Rattle.pgm.proofs.allowed.Reads as reads
+use Rattle.pgm.proofs.allowed.Lts as lts
+
+returns : tie.Need-returns
+returns c = simp (lt-leb _ _ (c .if1 .taken))
+
+returns-2 : tie.Need-returns-2
+returns-2 c = simp (le-leb _ _ (c .if1 .left))
+
+pub allowed-spec : {M : Type 1} → statement M
+allowed-spec = tie.close (tie.spec returns returns-2)

@@ -1,0 +1,20 @@
+use Rattle.pgm.proofs.Judging.{none-follow}
+-- `pgm::follow` meets its contract: past the end no byte follows. Assumes nothing.
+use borrow.Author.Needs.{needs}
+use native.Mathlib.Omega.{arith}
+use Rattle.pgm.proofs.follow.Statement.{statement}
+use Rattle.pgm.proofs.follow.Tie as tie
+use Rattle.pgm.proofs.follow.Reads as reads
+use Rattle.pgm.proofs.follow.Lts as lts
+
+returns : tie.Need-returns
+returns c = none-follow _ _ _ (c .if1 .taken) (c .before .pre)
+
+sub-result : tie.Need-sub-result
+sub-result c = search needs
+
+returns-2 : tie.Need-returns-2
+returns-2 c = search needs
+
+pub follow-spec : {M : Type 1} → statement M
+follow-spec = tie.close (tie.spec returns sub-result returns-2)

@@ -1,0 +1,17 @@
+use borrow.Author.Tests.{eq-eqb, ne-eqb}
+use native.Mathlib.Omega.{arith}
+use Rattle.pgm.proofs.header.ends_comment.Statement.{statement}
+use Rattle.pgm.proofs.header.ends_comment.Tie as tie
+use Rattle.pgm.proofs.header.ends_comment.Reads as reads
+use Rattle.pgm.proofs.header.ends_comment.Lts as lts
+
+-- src/header.rt:60:1
+returns : tie.Need-returns
+returns c = simp (eq-eqb _ _ (c .if1 .taken))
+
+-- src/header.rt:60:1
+returns-2 : tie.Need-returns-2
+returns-2 c = simp (ne-eqb _ _ (c .if1 .left))
+
+pub ends-comment-spec : {M : Type 1} → statement M
+ends-comment-spec = tie.close (tie.spec returns returns-2)

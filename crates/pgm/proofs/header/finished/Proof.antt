@@ -1,0 +1,17 @@
+-- `pgm::header::finished` meets its contract. Assumes nothing.
+use borrow.Author.Tests.{eq-eqb, ne-eqb}
+use borrow.Author.Needs.{needs}
+use native.Mathlib.Omega.{arith}
+use Rattle.pgm.proofs.header.finished.Statement.{statement}
+use Rattle.pgm.proofs.header.finished.Tie as tie
+use Rattle.pgm.proofs.header.finished.Reads as reads
+use Rattle.pgm.proofs.header.finished.Lts as lts
+
+returns : tie.Need-returns
+returns c = simp (eq-eqb _ _ (c .if1 .taken))
+
+returns-2 : tie.Need-returns-2
+returns-2 c = simp (ne-eqb _ _ (c .if1 .left))
+
+pub finished-spec : {M : Type 1} → statement M
+finished-spec = tie.close (tie.spec returns returns-2)

@@ -1,0 +1,50 @@
+use Rattle.pgm.proofs.Judging.{writable-is, fields-fit, buffer-written, buffer-kept}
+-- `pgm::write` meets its contract. Assumes nothing.
+use mathlib.Core.Path.{_∙_, sym}
+use borrow.Author.Needs.{needs}
+use native.Mathlib.Omega.{arith}
+use Rattle.pgm.proofs.write.Statement.{statement}
+use Rattle.pgm.proofs.write.Tie as tie
+use Rattle.pgm.proofs.write.Reads as reads
+use Rattle.pgm.proofs.write.Lts as lts
+use Rattle.pgm.proofs.put_file.Reads as put-file-reads
+use Rattle.pgm.proofs.writable.Reads as writable-reads
+
+writable-requires : tie.Need-writable-requires
+writable-requires c κs = search needs
+
+enum-known-needed : tie.Need-enum-known-needed
+enum-known-needed c = search needs
+
+put-file-requires : tie.Need-put-file-requires
+put-file-requires c κs =
+    let w = writable-is _ _ _ _ _ _ (sym (c .before .before .before .before .writable .ensures) ∙ c .before .before .needed .given .1) in
+    (fields-fit _ _ _ (w .sides-right) (w .maximum-right), w .room-right)
+
+enum-known-cause : tie.Need-enum-known-cause
+enum-known-cause c = search needs
+
+same-length : tie.Need-same-length
+same-length c = search needs
+
+returns : tie.Need-returns
+returns c = (
+  sym (c .before .before .before .before .before .needed .given .1) ∙ c .before .before .before .before .before .before .before .writable .ensures,
+  c .before .before .put-file .ensures ∙ buffer-written _ _ _ _ _ _ (sym (c .before .before .before .before .before .before .before .writable .ensures) ∙ c .before .before .before .before .before .needed .given .1),
+)
+
+returns-2 : tie.Need-returns-2
+returns-2 c =
+    (sym (c .before .cause .given .1) ∙ c .before .before .before .writable .ensures, buffer-kept _ _ _ _ _ _ (sym (c .before .before .before .writable .ensures) ∙ c .before .cause .given .1))
+
+pub write-spec : {M : Type 1} → statement M
+write-spec =
+    tie.close
+    (tie.spec
+    writable-requires
+    enum-known-needed
+    put-file-requires
+    enum-known-cause
+    same-length
+    returns
+    returns-2)

@@ -1,0 +1,5 @@
+pub mod Bytes
+pub mod Header
+pub mod Samples
+pub mod Read
+pub mod Write

@@ -1,0 +1,44 @@
+-- What reading a file answers: the picture that it holds, or the first cause that applies, in the order 8, 9, 10, 1, 11, 12.
+use Prim.Native.Nat.{ℕ, _+_, _*_, _-_}
+use mathlib.Core.Bool.{Bool, true, false, _&&_}
+use mathlib.Core.List.{List, []}
+use lib.ListN.{length, take, drop}
+use lib.Dec.{leb, eqb}
+use Rattle.causes.specs.declared.Cause.{Cause}
+use Rattle.causes.specs.declared.Cause.the-variants.{Sides, Sign, Header as BadHeader, Maximum, RasterLength, Sample}
+use Rattle.causes.specs.Sides.{sides-fit}
+use Rattle.pgm.specs.Header.{sign, starts-with-sign, header-at}
+use Rattle.pgm.specs.Samples.{all-at-most}
+use Rattle.pgm.specs.declared.header.Header.{Header}
+use Rattle.pgm.specs.declared.header.Header.the-variants.{Read, Broken}
+use Rattle.pgm.specs.declared.Found.{Found}
+use Rattle.pgm.specs.declared.Found.the-variants.{Picture, Refused}
+
+-- the answer where the test holds, else the refusal with the cause
+abbrev pub must : Bool → Cause → Found → Found
+must true cause answer = answer
+must false cause answer = Refused cause
+
+-- "The maximum is 1 to 255."
+abbrev pub maximum-fits : ℕ → Bool
+maximum-fits maximum = leb 1 maximum && leb maximum 255
+
+-- a whole header, judged: the maximum, the sides, the number of raster bytes, the samples
+unfoldable pub judged : List ℕ → Header → Found
+judged file Broken = Refused BadHeader
+judged file (Read width height maximum start) =
+    must (maximum-fits maximum) Maximum
+    (must (sides-fit width height) Sides
+    (must (eqb (length file - start) (width * height)) RasterLength
+    (must (all-at-most maximum (drop start file)) Sample (Picture width height maximum start))))
+
+unfoldable pub read-answer : List ℕ → Found
+read-answer file = must (starts-with-sign file) Sign (judged file (header-at file (length sign)))
+
+-- the raster of an accepted file, "a part of the file"; nothing of a refused one
+abbrev pub raster-part : List ℕ → Found → List ℕ
+raster-part file (Picture width height maximum start) = take (width * height) (drop start file)
+raster-part file (Refused cause) = []
+
+abbrev pub raster-of : List ℕ → List ℕ
+raster-of file = raster-part file (read-answer file)

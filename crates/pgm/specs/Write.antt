@@ -1,0 +1,54 @@
+-- What writing a picture answers, and what the lent buffer then holds.
+use Prim.Native.Nat.{ℕ, zero, suc, _+_, _*_, _/_, _%_, _<_}
+use mathlib.Core.Bool.{Bool, true, false, cond}
+use mathlib.Core.List.{List, [], _∷_, _++_}
+use lib.ListN.{length, drop}
+use lib.Dec.{leb, ltb, eqb}
+use Rattle.causes.specs.declared.Cause.{Cause}
+use Rattle.causes.specs.declared.Cause.the-variants.{Sides, PictureLength, Maximum, Sample, Buffer}
+use Rattle.causes.specs.Sides.{sides-fit}
+use Rattle.pgm.specs.Header.{sign}
+use Rattle.pgm.specs.Samples.{all-at-most}
+use Rattle.pgm.specs.Read.{maximum-fits}
+use Rattle.pgm.specs.declared.Written.{Written}
+use Rattle.pgm.specs.declared.Written.the-variants.{Bytes, Refused}
+
+-- the digits of x, "with no leading zeros", for an x of at most k digits
+unfoldable pub decimal : ℕ → ℕ → List ℕ
+decimal zero x = []
+decimal (suc k) x = cond (ltb x 10) ((48 + x) ∷ []) (decimal k (x / 10) ++ ((48 + x % 10) ∷ []))
+
+-- "P5, newline, width, blank, height, newline, maximum, newline, raster"
+unfoldable pub pgm-file : List ℕ → ℕ → ℕ → ℕ → List ℕ
+pgm-file picture width height maximum =
+    sign ++ 10 ∷ decimal 7 width ++ 32 ∷ decimal 7 height ++ 10 ∷ decimal 7 maximum ++ 10 ∷ picture
+
+-- the answer where the test holds, else the refusal with the cause
+abbrev pub must : Bool → Cause → Written → Written
+must true cause answer = answer
+must false cause answer = Refused cause
+
+-- the number of bytes, or the first cause that applies, in the order 1, 2, 10, 12, 7; room is the length of the lent buffer
+unfoldable pub write-answer : List ℕ → ℕ → ℕ → ℕ → ℕ → Written
+write-answer picture width height maximum room =
+    must (sides-fit width height) Sides
+    (must (eqb (length picture) (width * height)) PictureLength
+    (must (maximum-fits maximum) Maximum
+    (must (all-at-most maximum picture) Sample
+    (must (leb (length (pgm-file picture width height maximum)) room) Buffer
+    (Bytes (length (pgm-file picture width height maximum)))))))
+
+-- the file at the start of the buffer, "bytes after them are untouched"; a refusal leaves the whole buffer as it was
+abbrev pub buffer-with : Written → List ℕ → List ℕ → List ℕ
+buffer-with (Bytes total) file buffer = file ++ drop total buffer
+buffer-with (Refused cause) file buffer = buffer
+
+unfoldable pub buffer-after : List ℕ → ℕ → ℕ → ℕ → List ℕ → List ℕ
+buffer-after picture width height maximum buffer =
+    buffer-with (write-answer picture width height maximum (length buffer)) (pgm-file picture width height maximum) buffer
+
+-- three numbers that a header can hold
+pub record Fields (width height maximum : ℕ) : Type 0 where
+  pub width-fits : width < 10000000
+  pub height-fits : height < 10000000
+  pub maximum-fits : maximum < 10000000
