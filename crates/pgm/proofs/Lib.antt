@@ -4,3 +4,6 @@ pub mod Stores
 pub mod Decimals
 pub mod Judging
 pub mod Files
+pub mod Parts
+pub mod Shape
+pub mod RoundTrip

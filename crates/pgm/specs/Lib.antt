@@ -3,3 +3,4 @@ pub mod Header
 pub mod Samples
 pub mod Read
 pub mod Write
+pub mod Page

@@ -129,12 +129,12 @@ fn rasters() {
 
 fn buffers() {
     let picture = [10u8, 40, 10];
-    let mut exact = [1u8; 15];
+    let mut exact = [1u8; 14];
     writes(b"exact", &picture, 3, 1, 255, &mut exact);
     reads(b"read back", &exact);
-    let mut long = [1u8; 18];
+    let mut long = [1u8; 16];
     writes(b"three bytes more", &picture, 3, 1, 99, &mut long);
-    let mut short = [1u8; 13];
+    let mut short = [1u8; 12];
     writes(b"one byte too short", &picture, 3, 1, 99, &mut short);
     let mut none = [1u8; 0];
     writes(b"no buffer", &picture, 3, 1, 99, &mut none);
