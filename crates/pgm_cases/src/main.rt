@@ -2,7 +2,6 @@
 // found or the number of the cause, and the bytes of the raster or of the buffer.
 ghost use mathlib.Core.Path.{_≡_};
 ghost use lib.ListN.{length};
-
 use libc::STDOUT_FILENO;
 
 fn text(s: &[u8]) {
@@ -45,7 +44,12 @@ fn refused(cause: causes::Cause) {
 fn reads(name: &[u8], file: &[u8]) {
     text(name);
     match pgm::read(file) {
-        pgm::Found::Picture { width, height, maximum, start } => {
+        pgm::Found::Picture {
+            width,
+            height,
+            maximum,
+            start,
+        } => {
             field(width as u64);
             field(height as u64);
             field(maximum as u64);
@@ -81,10 +85,22 @@ fn signs() {
 fn gaps() {
     reads(b"newlines", b"P5\n3 1\n255\n\x0a\x28\x0a");
     reads(b"tabs and blanks", b"P5\t \t3  1 \t255 \x01\x02\x03");
-    reads(b"comments in gaps", b"P5 # a\n3\t# b\r 1\n# c # d\n# e\n255\n\x01\x02\x03");
-    reads(b"comment ends at 13, 10 is white", b"P5 #a\r\n1 1 255\n\x09");
-    reads(b"comment right after the sign", b"P5#a\n3 1 255\n\x01\x02\x03");
-    reads(b"comment right after a number", b"P5 3#a\n1 255\n\x01\x02\x03");
+    reads(
+        b"comments in gaps",
+        b"P5 # a\n3\t# b\r 1\n# c # d\n# e\n255\n\x01\x02\x03",
+    );
+    reads(
+        b"comment ends at 13, 10 is white",
+        b"P5 #a\r\n1 1 255\n\x09",
+    );
+    reads(
+        b"comment right after the sign",
+        b"P5#a\n3 1 255\n\x01\x02\x03",
+    );
+    reads(
+        b"comment right after a number",
+        b"P5 3#a\n1 255\n\x01\x02\x03",
+    );
     reads(b"comment inside a number", b"P5 1#a\n2 1 255\n\x01");
     reads(b"comment right after the maximum", b"P5 1 1 255#a\n\x01");
     reads(b"comment still open at the end", b"P5 3 # never ends 1 255");
@@ -118,7 +134,10 @@ fn rasters() {
     reads(b"white as the first sample", b"P5 2 1 255\n \x0a");
     reads(b"one byte short", b"P5 3 1 255\n\x01\x02");
     reads(b"one byte too many", b"P5 3 1 255\n\x01\x02\x03\x04");
-    reads(b"two white bytes after the maximum", b"P5 3 1 255\n\n\x01\x02\x03");
+    reads(
+        b"two white bytes after the maximum",
+        b"P5 3 1 255\n\n\x01\x02\x03",
+    );
     reads(b"no raster", b"P5 3 1 255\n");
     reads(b"sample at the maximum", b"P5 3 1 9\n\x01\x09\x03");
     reads(b"sample above the maximum", b"P5 3 1 9\n\x01\x0a\x03");
@@ -146,15 +165,36 @@ fn refusals() {
     writes(b"width 0", &picture, 0, 1, 255, &mut buffer);
     writes(b"height 4097", &picture, 3, 4097, 255, &mut buffer);
     writes(b"too many pixels", &picture, 4096, 4096, 255, &mut buffer);
-    writes(b"sides wrong and picture too long", &picture, 0, 0, 0, &mut buffer);
+    writes(
+        b"sides wrong and picture too long",
+        &picture,
+        0,
+        0,
+        0,
+        &mut buffer,
+    );
     writes(b"picture too long", &picture, 2, 1, 255, &mut buffer);
-    writes(b"picture too short and maximum 0", &picture, 2, 2, 0, &mut buffer);
+    writes(
+        b"picture too short and maximum 0",
+        &picture,
+        2,
+        2,
+        0,
+        &mut buffer,
+    );
     writes(b"maximum 0", &picture, 1, 3, 0, &mut buffer);
     writes(b"maximum 256", &picture, 1, 3, 256, &mut buffer);
     writes(b"sample above the maximum", &picture, 1, 3, 39, &mut buffer);
     writes(b"sample at the maximum", &picture, 1, 3, 40, &mut buffer);
     let mut short = [1u8; 2];
-    writes(b"sample above and buffer too short", &picture, 1, 3, 39, &mut short);
+    writes(
+        b"sample above and buffer too short",
+        &picture,
+        1,
+        3,
+        39,
+        &mut short,
+    );
 }
 
 // As many bytes as the file of a picture of 65,536 pixels has.

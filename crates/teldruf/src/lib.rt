@@ -5,7 +5,6 @@ ghost use lib.ListN.{length};
 ghost use Rattle.pgm.specs.Read.{read-answer};
 ghost use Rattle.pgm.specs.Write.{write-answer, buffer-after};
 ghost use Rattle.teldruf.specs.Codes.{refused-code, found-code, head-with, written-code};
-
 use causes::Cause;
 
 fn refused(cause: Cause) -> u64
@@ -20,7 +19,12 @@ pub extern "C" fn teldruf_read_pgm(file: &[u8], head: &mut [u32; 4]) -> u64
     ensures { λ r. ⌜ (r ≡ found-code (read-answer (now (file .entry)))) × (now (head .exit) ≡ head-with (read-answer (now (file .entry))) (now (head .entry))) ⌝ }
 {
     match pgm::read(file) {
-        pgm::Found::Picture { width, height, maximum, start } => {
+        pgm::Found::Picture {
+            width,
+            height,
+            maximum,
+            start,
+        } => {
             head[0] = width;
             head[1] = height;
             head[2] = maximum;
@@ -33,7 +37,13 @@ pub extern "C" fn teldruf_read_pgm(file: &[u8], head: &mut [u32; 4]) -> u64
 
 // Writes a picture's PGM file into the buffer, and answers the number of its bytes.
 #[no_mangle]
-pub extern "C" fn teldruf_write_pgm(picture: &[u8], width: u32, height: u32, maximum: u32, buffer: &mut [u8]) -> u64
+pub extern "C" fn teldruf_write_pgm(
+    picture: &[u8],
+    width: u32,
+    height: u32,
+    maximum: u32,
+    buffer: &mut [u8],
+) -> u64
     ensures { λ r. ⌜ (r ≡ written-code (write-answer (now (picture .entry)) width height maximum (length (now (buffer .entry))))) × (now (buffer .exit) ≡ buffer-after (now (picture .entry)) width height maximum (now (buffer .entry))) ⌝ }
 {
     match pgm::write(picture, width, height, maximum, buffer) {

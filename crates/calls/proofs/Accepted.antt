@@ -1,0 +1,106 @@
+-- What holds of a call that is accepted: each test that judges it was passed. Assumes nothing.
+use Prim.Native.Nat.{ℕ, _*_, _≤_}
+use mathlib.Core.Bool.{Bool, true, false, _&&_}
+use mathlib.Core.List.{List}
+use mathlib.Core.Path.{_≡_, refl}
+use native.Mathlib.Omega.{arith}
+use lib.Dec.{leb, eqb}
+use lib.ListN.{length}
+use borrow.Author.Tests.{leb-true, eqb-true}
+use Rattle.sets.proofs.Tests.{and-left, and-right}
+use Rattle.opening.specs.Residue.{rising}
+use Rattle.causes.specs.Sides.{sides-fit}
+use Rattle.causes.specs.declared.Cause.{Cause}
+use Rattle.causes.specs.declared.Cause.the-variants.{Sides, PictureLength, Attribute, Steps, Workspace, Output}
+use Rattle.calls.specs.Judging.{attribute-good, all-good, steps-good, unless, call-verdict, accepted}
+use Rattle.calls.specs.declared.Verdict.{Verdict}
+use Rattle.calls.specs.declared.Verdict.the-variants.{Accepted, Refused}
+
+-- the bounds on a picture's sides
+pub record Bounded (width height : ℕ) : Type 0 where
+  pub wide : 1 ≤ width
+  pub not-wider : width ≤ 4096
+  pub high : 1 ≤ height
+  pub not-higher : height ≤ 4096
+  pub small : width * height ≤ 1048576
+
+pub bounded : (width height : ℕ) → sides-fit width height ≡ true → Bounded width height
+bounded w h fits =
+    let both : (leb 1 w && leb w 4096 && (leb 1 h && leb h 4096)) ≡ true =
+    and-left (leb 1 w && leb w 4096 && (leb 1 h && leb h 4096)) (leb (w * h) 1048576) fits in
+    let width-fits : (leb 1 w && leb w 4096) ≡ true =
+    and-left (leb 1 w && leb w 4096) (leb 1 h && leb h 4096) both in
+    let height-fits : (leb 1 h && leb h 4096) ≡ true =
+    and-right (leb 1 w && leb w 4096) (leb 1 h && leb h 4096) both in
+    record {
+      wide = leb-true 1 w (and-left (leb 1 w) (leb w 4096) width-fits);
+      not-wider = leb-true w 4096 (and-right (leb 1 w) (leb w 4096) width-fits);
+      high = leb-true 1 h (and-left (leb 1 h) (leb h 4096) height-fits);
+      not-higher = leb-true h 4096 (and-right (leb 1 h) (leb h 4096) height-fits);
+      small =
+          leb-true
+          (w * h)
+          1048576
+          (and-right (leb 1 w && leb w 4096 && (leb 1 h && leb h 4096)) (leb (w * h) 1048576) fits);
+    }
+
+-- a step list
+pub record Step-list (steps : List ℕ) : Type 0 where
+  pub some-steps : 1 ≤ length steps
+  pub not-more : length steps ≤ 256
+  pub rises : rising 0 steps ≡ true
+  pub in-range : all-good steps ≡ true
+
+pub step-list : (steps : List ℕ) → steps-good steps ≡ true → Step-list steps
+unfolding steps-good
+step-list steps good =
+    let l : ℕ = length steps in
+    let counted : (leb 1 l && leb l 256) ≡ true =
+    and-left (leb 1 l && leb l 256) (rising 0 steps && all-good steps) good in
+    let listed : (rising 0 steps && all-good steps) ≡ true =
+    and-right (leb 1 l && leb l 256) (rising 0 steps && all-good steps) good in
+    record {
+      some-steps = leb-true 1 l (and-left (leb 1 l) (leb l 256) counted);
+      not-more = leb-true l 256 (and-right (leb 1 l) (leb l 256) counted);
+      rises = and-left (rising 0 steps) (all-good steps) listed;
+      in-range = and-right (rising 0 steps) (all-good steps) listed;
+    }
+
+-- a call that passes every test
+pub record Passed (width height attribute bytes : ℕ) (thresholds : Bool) (words : ℕ) (outputs : Bool) : Type 0 where
+  pub sides : sides-fit width height ≡ true
+  pub a-byte-each : bytes ≡ width * height
+  pub attribute-known : attribute-good attribute ≡ true
+  pub thresholds-good : thresholds ≡ true
+  pub six-words-each : words ≡ 6 * (width * height)
+  pub outputs-good : outputs ≡ true
+
+unless-accepted : (good : Bool) (cause : Cause) (later : Verdict) → unless good cause later ≡ Accepted
+    → (good ≡ true) × (later ≡ Accepted)
+unless-accepted true cause later e = (refl, e)
+unless-accepted false cause later e = let clash : _≡_ {A = ℕ} 0 1 = cc in absurd (omega arith)
+
+pub passed : (width height attribute bytes : ℕ) (thresholds : Bool) (words : ℕ) (outputs : Bool)
+    → call-verdict width height attribute bytes thresholds words outputs ≡ Accepted
+    → Passed width height attribute bytes thresholds words outputs
+unfolding call-verdict
+passed width height attribute bytes thresholds words outputs verdict =
+    let (sides, e₁) = unless-accepted (sides-fit width height) Sides _ verdict in
+    let (bytes-good, e₂) = unless-accepted (eqb bytes (width * height)) PictureLength _ e₁ in
+    let (attribute-known, e₃) = unless-accepted (attribute-good attribute) Attribute _ e₂ in
+    let (thresholds-good, e₄) = unless-accepted thresholds Steps _ e₃ in
+    let (words-good, e₅) = unless-accepted (eqb words (6 * (width * height))) Workspace _ e₄ in
+    let (outputs-good, e₆) = unless-accepted outputs Output _ e₅ in
+    record {
+      sides = sides;
+      a-byte-each = eqb-true bytes (width * height) bytes-good;
+      attribute-known = attribute-known;
+      thresholds-good = thresholds-good;
+      six-words-each = eqb-true words (6 * (width * height)) words-good;
+      outputs-good = outputs-good;
+    }
+
+-- the test and the verdict
+pub accepted-verdict : (verdict : Verdict) → accepted verdict ≡ true → verdict ≡ Accepted
+accepted-verdict Accepted e = refl
+accepted-verdict (Refused cause) e = let clash : _≡_ {A = ℕ} 0 1 = cc in absurd (omega arith)

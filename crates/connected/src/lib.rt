@@ -1,0 +1,1 @@
+// Connectedness of a set of positions: definitions and laws only, no code.

@@ -1,0 +1,3 @@
+pub mod Attributes
+pub mod Whole
+pub mod Edges

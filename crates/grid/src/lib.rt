@@ -1,0 +1,1 @@
+// The grid of a picture: definitions and laws only, no code.

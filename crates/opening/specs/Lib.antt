@@ -1,0 +1,4 @@
+pub mod Opening
+pub mod Node
+pub mod Leveling
+pub mod Residue

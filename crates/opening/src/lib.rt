@@ -1,0 +1,1 @@
+// Attribute openings, levelings and residues: definitions and laws only, no code.

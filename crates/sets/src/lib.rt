@@ -1,0 +1,1 @@
+// Sets of positions: definitions and laws only, no code.

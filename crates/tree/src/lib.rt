@@ -1,0 +1,1 @@
+// The tree of a picture: definitions and laws only, no code.
