@@ -1,0 +1,135 @@
+/*
+ * The library, the same flooding in C, and a union-find baseline, side by side on pictures of 1,048,576 pixels. All must agree;
+ * times are printed and nothing is asked of them. A time is the processor time of one call, the least of several, on memory that
+ * was touched before and is not cleared between calls.
+ *
+ *   bench [area|height|width] [RUNS]
+ */
+#include "bench.h"
+#include "teldruf.h"
+
+#include <stdio.h>
+#include <stdlib.h>
+#include <string.h>
+#include <time.h>
+
+enum { SIDE = 1024, PIXELS = SIDE * SIDE, STEPS = 256, THRESHOLD = 40, WAYS = 3, PARTS = 3, CAMERA_SECONDS = 20 };
+
+static const char *const ways[WAYS] = {"library", "flooding in C", "union-find in C"};
+static const char *const parts[PARTS] = {"build", "opening", "map"};
+
+/* What a call leaves. */
+typedef struct {
+    uint32_t *ws;
+    uint8_t *output, *residue;
+    uint16_t *index;
+    uint64_t nodes;
+} result_t;
+
+static uint32_t steps[STEPS];
+
+static double milliseconds(void) {
+    struct timespec t;
+    clock_gettime(CLOCK_THREAD_CPUTIME_ID, &t);
+    return t.tv_sec * 1e3 + t.tv_nsec / 1e6;
+}
+
+static void *lend(size_t bytes) {
+    void *memory = malloc(bytes);
+    if (memory == NULL)
+        exit(2);
+    return memset(memory, 0xa5, bytes);
+}
+
+static uint64_t library_call(int part, const picture_t *p, uint32_t attribute, result_t *r) {
+    if (part == 0)
+        return teldruf_build(p->greys, PIXELS, p->width, p->height, attribute, r->ws, 6 * PIXELS);
+    if (part == 1)
+        return teldruf_open(p->greys, PIXELS, p->width, p->height, attribute, THRESHOLD, r->ws, 6 * PIXELS, r->output, PIXELS);
+    return teldruf_map(p->greys, PIXELS, p->width, p->height, attribute, steps, STEPS, r->ws, 6 * PIXELS, r->residue, PIXELS,
+                       r->index, PIXELS);
+}
+
+static uint64_t c_call(forest_fn *forest, int part, const picture_t *p, uint32_t attribute, result_t *r) {
+    if (part == 0)
+        return c_build(forest, p, attribute, r->ws);
+    if (part == 1)
+        c_open(forest, p, attribute, THRESHOLD, r->ws, r->output);
+    else
+        c_map(forest, p, attribute, steps, STEPS, r->ws, r->residue, r->index);
+    return 0;
+}
+
+static double timed(int way, int part, const picture_t *picture, uint32_t attribute, result_t *r) {
+    double start = milliseconds();
+    uint64_t answer = way == 0 ? library_call(part, picture, attribute, r)
+                               : c_call(way == 1 ? flood : join, part, picture, attribute, r);
+    double time = milliseconds() - start;
+    if (part == 0)
+        r->nodes = answer;
+    else if (answer != 0)
+        r->nodes = UINT64_MAX;
+    return time;
+}
+
+static int agree(const result_t *a, const result_t *b) {
+    return a->nodes == b->nodes && memcmp(a->ws, b->ws, 6 * PIXELS * sizeof *a->ws) == 0 &&
+           memcmp(a->output, b->output, PIXELS) == 0 && memcmp(a->residue, b->residue, PIXELS) == 0 &&
+           memcmp(a->index, b->index, PIXELS * sizeof *a->index) == 0;
+}
+
+static void print_rows(const char *name, double times[PARTS][WAYS]) {
+    for (int part = 0; part < PARTS; part++) {
+        double *t = times[part];
+        printf("%-13s %-8s %9.1f %9.1f %9.1f   %8.2f %8.2f\n", name, parts[part], t[0], t[1], t[2], t[0] / t[1], t[0] / t[2]);
+    }
+}
+
+/* All ways and parts on one picture; the time of the library's map call, below 0 if the ways differ. */
+static double run_picture(const char *name, uint32_t attribute, int runs, result_t results[WAYS]) {
+    picture_t picture;
+    double times[PARTS][WAYS];
+    if (!picture_make(&picture, name, SIDE, SIDE))
+        exit(2);
+    for (int run = 0; run < runs; run++)
+        for (int part = 0; part < PARTS; part++)
+            for (int way = 0; way < WAYS; way++) {
+                double time = timed(way, part, &picture, attribute, &results[way]);
+                if (run == 0 || time < times[part][way])
+                    times[part][way] = time;
+            }
+    free(picture.greys);
+    print_rows(name, times);
+    for (int way = 1; way < WAYS; way++)
+        if (!agree(&results[0], &results[way])) {
+            printf("%s: library and %s differ\n", name, ways[way]);
+            return -1;
+        }
+    return times[2][0];
+}
+
+int main(int count, char **words) {
+    const char *names[] = {"floc", "noise", "ramp", "flat", "checkerboard"};
+    const char *attributes[] = {"area", "height", "width"};
+    uint32_t attribute = AREA;
+    int runs = count > 2 ? atoi(words[2]) : 7, differing = 0;
+    for (uint32_t a = 0; count > 1 && a < 3; a++)
+        if (!strcmp(words[1], attributes[a]))
+            attribute = a + 1;
+    for (uint32_t i = 0; i < STEPS; i++)
+        steps[i] = 1 + i + i * i / 16;
+    result_t results[WAYS];
+    for (int way = 0; way < WAYS; way++)
+        results[way] = (result_t){lend(6 * PIXELS * 4), lend(PIXELS), lend(PIXELS), lend(PIXELS * 2), 0};
+    printf("%d pixels, %s, opening at %d, map with %d steps; ms, least of %d\n", PIXELS, attributes[attribute - 1], THRESHOLD,
+           STEPS, runs);
+    printf("%-13s %-8s %9s %9s %9s   %8s %8s\n", "picture", "call", "library", "flooding", "union", "to flood", "to union");
+    for (int k = 0; k < 5; k++) {
+        double time = run_picture(names[k], attribute, runs < 1 ? 1 : runs, results);
+        differing += time < 0;
+        if (time > 0)
+            printf("%-13s map: %.1f pictures a second, %.0f cameras a core\n", names[k], 1e3 / time, CAMERA_SECONDS * 1e3 / time);
+    }
+    puts(differing ? "the ways differ" : "all agree");
+    return differing != 0;
+}

@@ -1,0 +1,34 @@
+/* What the parts of the benchmark share. The workspace is the library's: 6n words, parents, attributes, order, and scratch. */
+#ifndef BENCH_H
+#define BENCH_H
+
+#include <stddef.h>
+#include <stdint.h>
+
+enum { AREA = 1, HEIGHT = 2, WIDTH = 3 };
+
+typedef struct {
+    const char *name;
+    uint32_t width, height;
+    uint8_t *greys;
+} picture_t;
+
+/* Pictures of many kinds; the same for the same name and size. */
+int picture_make(picture_t *picture, const char *name, uint32_t width, uint32_t height);
+
+/*
+ * Two ways to a forest: each pixel's parent word is the root of its node, a root's the root of the parent node, the last root's
+ * its own; part 3 holds the pixels from dark to bright.
+ */
+void flood(const picture_t *picture, uint32_t *ws);
+void join(const picture_t *picture, uint32_t *ws);
+
+typedef void forest_fn(const picture_t *picture, uint32_t *ws);
+
+/* The passes that follow, the same for both. */
+uint32_t c_build(forest_fn *forest, const picture_t *picture, uint32_t attribute, uint32_t *ws);
+void c_open(forest_fn *forest, const picture_t *picture, uint32_t attribute, uint32_t threshold, uint32_t *ws, uint8_t *output);
+void c_map(forest_fn *forest, const picture_t *picture, uint32_t attribute, const uint32_t *steps, size_t count, uint32_t *ws,
+           uint8_t *residue, uint16_t *index);
+
+#endif

@@ -1,0 +1,67 @@
+/* Pictures for the benchmark. */
+#include "bench.h"
+
+#include <stdlib.h>
+#include <string.h>
+
+static uint64_t state;
+
+static uint32_t draw(uint32_t below) {
+    uint64_t z = state += 0x9e3779b97f4a7c15u;
+    z = (z ^ (z >> 30)) * 0xbf58476d1ce4e5b9u;
+    z = (z ^ (z >> 27)) * 0x94d049bb133111ebu;
+    z ^= z >> 31;
+    return (uint32_t)(((z >> 32) * below) >> 32);
+}
+
+static void disc(const picture_t *picture, int radius, int bright) {
+    int width = picture->width, height = picture->height;
+    int row = draw(height), column = draw(width), reach = radius * radius;
+    for (int y = row - radius; y <= row + radius; y++)
+        for (int x = column - radius; x <= column + radius; x++) {
+            int far = (y - row) * (y - row) + (x - column) * (x - column);
+            if (y < 0 || x < 0 || y >= height || x >= width || far > reach)
+                continue;
+            int grey = bright - bright * far / (3 * reach + 3) + (int)draw(8);
+            uint8_t *at = &picture->greys[(size_t)y * width + x];
+            if (grey > *at)
+                *at = grey > 255 ? 255 : grey;
+        }
+}
+
+/* Bright discs of many sizes, fading to their rims, on a dark, slightly uneven ground with noise. */
+static void floc(const picture_t *picture) {
+    uint32_t n = picture->width * picture->height;
+    for (uint32_t p = 0; p < n; p++)
+        picture->greys[p] = 24 + p / picture->width / 64 % 16 + p % picture->width / 96 + draw(8);
+    for (uint32_t k = 0; k < n / 600; k++) {
+        uint32_t kind = draw(100);
+        int radius = kind < 2 ? 12 + draw(20) : kind < 20 ? 4 + draw(9) : 1 + draw(4);
+        disc(picture, radius, 70 + draw(170));
+    }
+}
+
+static uint8_t at(const char *name, uint32_t row, uint32_t column) {
+    if (!strcmp(name, "noise"))
+        return draw(256);
+    if (!strcmp(name, "ramp"))
+        return (row + column) / 8;
+    if (!strcmp(name, "checkerboard"))
+        return (row + column) % 2 ? 200 : 20;
+    return 90;
+}
+
+int picture_make(picture_t *picture, const char *name, uint32_t width, uint32_t height) {
+    *picture = (picture_t){name, width, height, malloc((size_t)width * height)};
+    if (picture->greys == NULL)
+        return 0;
+    state = 2011;
+    if (!strcmp(name, "floc")) {
+        floc(picture);
+        return 1;
+    }
+    for (uint32_t row = 0; row < height; row++)
+        for (uint32_t column = 0; column < width; column++)
+            picture->greys[(size_t)row * width + column] = at(name, row, column);
+    return 1;
+}

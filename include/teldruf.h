@@ -1,0 +1,109 @@
+/*
+ * Teldruf sizes floc in grey pictures by ultimate attribute openings.
+ *
+ * The library allocates nothing and keeps nothing between calls: it works in the memory that a call lends it. A picture is a run of
+ * n = width x height bytes, row by row from the top left; a position is row x width + column. Width and height are 1 to 4,096, n is
+ * at most 1,048,576. Neighbours share an edge.
+ *
+ * Every call answers 64 bits. Below 2^32 the call was accepted, and the answer is its value. Otherwise it was refused, the answer is
+ * the cause's number times 2^32, and all lent memory is as it was. The first cause in the order named with a call decides.
+ *
+ * The caller's duties: pointers are not null and are aligned for their type, also where a length is 0; lengths count entries and
+ * stand for memory that is there; runs lent in one call do not overlap; nobody else writes them during the call.
+ */
+#ifndef TELDRUF_H
+#define TELDRUF_H
+
+#include <stddef.h>
+#include <stdint.h>
+
+#ifdef __cplusplus
+extern "C" {
+#endif
+
+/* The causes of refusal that these calls have. */
+enum {
+    TELDRUF_SIDES = 1,          /* width or height outside 1 to 4,096, or n above 1,048,576 */
+    TELDRUF_PICTURE_LENGTH = 2, /* picture bytes not n */
+    TELDRUF_ATTRIBUTE = 3,      /* attribute not 1, 2 or 3 */
+    TELDRUF_STEPS = 4,          /* threshold outside 1 to 1,048,577; step list empty, over 256 or not strictly rising */
+    TELDRUF_WORKSPACE = 5,      /* workspace not 6n words */
+    TELDRUF_OUTPUT_LENGTH = 6,  /* an output not n entries */
+    TELDRUF_BUFFER = 7,         /* the writer's buffer shorter than the file */
+    TELDRUF_SIGN = 8,           /* the file does not start with P5 */
+    TELDRUF_HEADER = 9,         /* the header broken or ended early */
+    TELDRUF_MAXIMUM = 10,       /* maximum 0 or above 255 */
+    TELDRUF_RASTER_LENGTH = 11, /* raster bytes not n */
+    TELDRUF_SAMPLE = 12         /* a sample above the maximum */
+};
+
+/* Attributes of a connected set of pixels. */
+enum {
+    TELDRUF_AREA = 1,   /* pixels */
+    TELDRUF_HEIGHT = 2, /* lowest row less highest row, plus 1 */
+    TELDRUF_WIDTH = 3   /* the same of columns */
+};
+
+enum {
+    TELDRUF_MOST_SIDE = 4096,
+    TELDRUF_MOST_PIXELS = 1048576,
+    TELDRUF_MOST_THRESHOLD = 1048577,
+    TELDRUF_MOST_STEPS = 256,
+    TELDRUF_WORDS_A_PIXEL = 6
+};
+
+/* The number of the cause in an answer, 0 if the call was accepted. */
+static inline uint32_t teldruf_cause(uint64_t answer) {
+    return (uint32_t)(answer >> 32);
+}
+
+/*
+ * Reads a binary PGM file. Lent: the file's bytes, any number of them, which are only read; and four words for the head. Accepted:
+ * the answer is 0 and head holds width, height, maximum and where the raster starts in the file; the raster is the n bytes from
+ * there. Refused, in this order: 8, 9, 10, 1, 11, 12.
+ */
+uint64_t teldruf_read_pgm(const uint8_t *file, size_t file_len, uint32_t head[4]);
+
+/*
+ * Writes a picture as a binary PGM file. Lent: the picture, n bytes, which are only read; and a buffer at least as long as the file:
+ * n bytes and at most 17 for the header. Accepted: the answer is the number of bytes written at the start of the buffer; those after
+ * them are untouched. Refused, in this order: 1, 2, 10, 12, 7.
+ */
+uint64_t teldruf_write_pgm(const uint8_t *picture, size_t picture_len, uint32_t width, uint32_t height, uint32_t maximum,
+                           uint8_t *buffer, size_t buffer_len);
+
+/*
+ * Builds the max-tree of a picture. Lent: the picture, n bytes, which are only read; and the workspace, exactly 6n words, which may
+ * hold anything. Accepted: the answer is the number of nodes, and the workspace holds the record: n parents, n attributes, 4n zeros.
+ * A node is represented by its own pixel of lowest position. A representative's parent is the position of its parent's
+ * representative (the root's is its own) and its attribute is the node's; any other pixel's parent is its representative and its
+ * attribute is 0. Refused, in this order: 1, 2, 3, 5.
+ */
+uint64_t teldruf_build(const uint8_t *picture, size_t picture_len, uint32_t width, uint32_t height, uint32_t attribute,
+                       uint32_t *workspace, size_t workspace_len);
+
+/*
+ * Opens a picture at a threshold from 1 to 1,048,577: a node other than the root goes if its attribute is below the threshold. Lent:
+ * the picture, n bytes, which are only read; the workspace, exactly 6n words; and the output, exactly n bytes. Both may hold
+ * anything. Accepted: the answer is 0, the output holds the opened picture and the workspace the record of the picture given.
+ * Refused, in this order: 1, 2, 3, 4, 5, 6.
+ */
+uint64_t teldruf_open(const uint8_t *picture, size_t picture_len, uint32_t width, uint32_t height, uint32_t attribute,
+                      uint32_t threshold, uint32_t *workspace, size_t workspace_len, uint8_t *output, size_t output_len);
+
+/*
+ * Gives the residue map and the index map of a picture for a list of 1 to 256 strictly rising steps, each from 1 to 1,048,577. Lent:
+ * the picture, n bytes, and the steps, both only read; the workspace, exactly 6n words; the residue map, exactly n bytes; and the
+ * index map, exactly n entries of 16 bits. The last three may hold anything. Accepted: the answer is 0, the residue map holds at
+ * each pixel the largest fall from one opening to the next, the index map the largest place in the list, from 1, of a step with that
+ * fall, or 0 where it is 0, and the workspace the record of the picture. Refused, in this order: 1, 2, 3, 4, 5, 6.
+ */
+uint64_t teldruf_map(const uint8_t *picture, size_t picture_len, uint32_t width, uint32_t height, uint32_t attribute,
+                     const uint32_t *steps, size_t steps_len, uint32_t *workspace, size_t workspace_len, uint8_t *residue,
+                     size_t residue_len, uint16_t *index, size_t index_len);
+
+#ifdef __cplusplus
+}
+#endif
+
+#endif

@@ -1,0 +1,329 @@
+// Build, open and map on random pictures: accepted calls against the definitions, refused ones
+// against the causes, each cause alone and in pairs.
+
+use crate::causes::{refusal, Named, MOST_STEPS, MOST_THRESHOLD};
+use crate::damage;
+use crate::definition::{Component, Levels, Picture, Record};
+use crate::fast::Forest;
+use crate::interface::{self, Frame};
+use crate::lent::Lent;
+use crate::pictures;
+use crate::random::Random;
+use crate::report::{answer_fault, refused, Report};
+
+/// What is named and lent in a call; each call takes its part of it.
+#[derive(Clone, Debug)]
+pub struct Call {
+    pub picture: Vec<u8>,
+    pub frame: Frame,
+    pub steps: Vec<u32>,
+    pub workspace: usize,
+    pub outputs: [usize; 2],
+}
+
+impl Call {
+    pub fn good(picture: &Picture, attribute: u32, steps: Vec<u32>) -> Call {
+        let n = picture.pixels();
+        let frame = Frame {
+            width: picture.width as u32,
+            height: picture.height as u32,
+            attribute,
+        };
+        Call {
+            picture: picture.greys.clone(),
+            frame,
+            steps,
+            workspace: 6 * n,
+            outputs: [n, n],
+        }
+    }
+
+    pub fn named<'a>(&'a self, steps: Option<&'a [u32]>, outputs: usize) -> Named<'a> {
+        Named {
+            width: self.frame.width,
+            height: self.frame.height,
+            picture: self.picture.len(),
+            attribute: self.frame.attribute,
+            steps,
+            workspace: self.workspace,
+            outputs: &self.outputs[..outputs],
+        }
+    }
+}
+
+/// What the definitions say of a picture, worked out at need.
+pub trait Truth {
+    fn record(&self, attribute: u32) -> Record;
+    fn opening(&self, attribute: u32, threshold: u32) -> Vec<u8>;
+    fn maps(&self, attribute: u32, steps: &[u32]) -> (Vec<u8>, Vec<u16>);
+}
+
+pub struct ByDefinition<'a> {
+    pub picture: &'a Picture,
+    pub levels: &'a Levels,
+}
+
+impl Truth for ByDefinition<'_> {
+    fn record(&self, attribute: u32) -> Record {
+        self.levels.record(attribute)
+    }
+    fn opening(&self, attribute: u32, threshold: u32) -> Vec<u8> {
+        self.levels.opening(attribute, threshold)
+    }
+    fn maps(&self, attribute: u32, steps: &[u32]) -> (Vec<u8>, Vec<u16>) {
+        self.levels.maps(self.picture, attribute, steps)
+    }
+}
+
+impl Truth for Forest {
+    fn record(&self, attribute: u32) -> Record {
+        Forest::record(self, attribute)
+    }
+    fn opening(&self, attribute: u32, threshold: u32) -> Vec<u8> {
+        Forest::opening(self, attribute, threshold)
+    }
+    fn maps(&self, attribute: u32, steps: &[u32]) -> (Vec<u8>, Vec<u16>) {
+        Forest::maps(self, attribute, steps)
+    }
+}
+
+fn first_fault(faults: impl IntoIterator<Item = Option<String>>) -> Option<String> {
+    faults.into_iter().flatten().next()
+}
+
+/// The answer due, and what was due is counted.
+fn due(report: &mut Report, name: &'static str, due: Result<u64, u32>) -> u64 {
+    report.met(name, due.map_or_else(u64::from, |_| 0));
+    due.unwrap_or_else(refused)
+}
+
+pub fn check_build(report: &mut Report, random: &mut Random, call: &Call, truth: &dyn Truth) {
+    let picture = Lent::holding(random, &call.picture);
+    let mut workspace = Lent::dirty(random, call.workspace);
+    let answer = interface::build(&picture, call.frame, &mut workspace);
+    let outcome = refusal(&call.named(None, 0)).map(|()| truth.record(call.frame.attribute));
+    let words = outcome.as_ref().ok().map(Record::workspace);
+    let answer_due = due(
+        report,
+        "build",
+        outcome.map(|record| u64::from(record.nodes)),
+    );
+    let fault = first_fault([
+        answer_fault(answer, answer_due),
+        picture.fault("picture", None),
+        workspace.fault("workspace", words.as_deref()),
+    ]);
+    report.check(fault, || shown("build", call));
+}
+
+/// Hands back the output, for the next call of a chain.
+pub fn check_open(
+    report: &mut Report,
+    random: &mut Random,
+    call: &Call,
+    truth: &dyn Truth,
+) -> Option<Vec<u8>> {
+    let threshold = call.steps[0];
+    let picture = Lent::holding(random, &call.picture);
+    let mut workspace = Lent::dirty(random, call.workspace);
+    let mut output = Lent::dirty(random, call.outputs[0]);
+    let answer = interface::open(&picture, call.frame, threshold, &mut workspace, &mut output);
+    let outcome = refusal(&call.named(Some(&[threshold]), 1));
+    let attribute = call.frame.attribute;
+    let accepted = outcome.is_ok();
+    let words = accepted.then(|| truth.record(attribute).workspace());
+    let opened = accepted.then(|| truth.opening(attribute, threshold));
+    let answer_due = due(report, "open", outcome.map(|()| 0));
+    let fault = first_fault([
+        answer_fault(answer, answer_due),
+        picture.fault("picture", None),
+        workspace.fault("workspace", words.as_deref()),
+        output.fault("output", opened.as_deref()),
+    ]);
+    report.check(fault, || shown("open", call));
+    accepted.then(|| output.now().to_vec())
+}
+
+pub fn check_map(
+    report: &mut Report,
+    random: &mut Random,
+    call: &Call,
+    truth: &dyn Truth,
+) -> Option<(Vec<u8>, Vec<u16>)> {
+    let picture = Lent::holding(random, &call.picture);
+    let steps = Lent::holding(random, &call.steps);
+    let mut workspace = Lent::dirty(random, call.workspace);
+    let mut residue = Lent::dirty(random, call.outputs[0]);
+    let mut index = Lent::dirty(random, call.outputs[1]);
+    let lent = (&mut workspace, &mut residue, &mut index);
+    let answer = interface::map(&picture, call.frame, &steps, lent.0, lent.1, lent.2);
+    let outcome = refusal(&call.named(Some(&call.steps), 2));
+    let attribute = call.frame.attribute;
+    let accepted = outcome.is_ok();
+    let words = accepted.then(|| truth.record(attribute).workspace());
+    let (largest, at) = accepted.then(|| truth.maps(attribute, &call.steps)).unzip();
+    let answer_due = due(report, "map", outcome.map(|()| 0));
+    let fault = first_fault([
+        answer_fault(answer, answer_due),
+        picture.fault("picture", None),
+        steps.fault("steps", None),
+        workspace.fault("workspace", words.as_deref()),
+        residue.fault("residue", largest.as_deref()),
+        index.fault("index", at.as_deref()),
+    ]);
+    report.check(fault, || shown("map", call));
+    accepted.then(|| (residue.now().to_vec(), index.now().to_vec()))
+}
+
+fn shown(name: &str, call: &Call) -> String {
+    if call.picture.len() > 400 {
+        let (bytes, steps) = (call.picture.len(), call.steps.len());
+        let (frame, lent) = (call.frame, (call.workspace, call.outputs));
+        return format!("{name}: {bytes} bytes, {frame:?}, {steps} steps, lent {lent:?}");
+    }
+    format!("{name}: {call:?}")
+}
+
+/// A threshold near one of the attributes of the picture, or any in the range.
+pub fn threshold(random: &mut Random, attributes: &[u32]) -> u32 {
+    let t = match random.below(10) {
+        0 => random.between(1, MOST_THRESHOLD as usize) as u32,
+        1 => random.pick(&[1, 2, MOST_THRESHOLD - 1, MOST_THRESHOLD]),
+        2 => random.between(1, 40) as u32,
+        _ => random.pick(attributes) + random.below(2) as u32,
+    };
+    t.clamp(1, MOST_THRESHOLD)
+}
+
+pub fn step_list(random: &mut Random, attributes: &[u32]) -> Vec<u32> {
+    let wanted = match random.below(40) {
+        0 => MOST_STEPS,
+        1 => random.between(100, MOST_STEPS),
+        2..=5 => 1,
+        _ => random.between(1, 12),
+    };
+    if wanted > 12 && random.chance(1, 2) {
+        let first = random.between(1, 5) as u32;
+        return (first..first + wanted as u32).collect();
+    }
+    let mut steps: Vec<u32> = (0..wanted).map(|_| threshold(random, attributes)).collect();
+    steps.sort_unstable();
+    steps.dedup();
+    while steps.len() < wanted && wanted > 12 {
+        steps.push(random.between(1, MOST_THRESHOLD as usize) as u32);
+        steps.sort_unstable();
+        steps.dedup();
+    }
+    steps
+}
+
+type Check = fn(&mut Report, &mut Random, &Call, &dyn Truth);
+
+const CHECKS: [Check; 3] = [
+    check_build,
+    |report, random, call, truth| drop(check_open(report, random, call, truth)),
+    |report, random, call, truth| drop(check_map(report, random, call, truth)),
+];
+
+/// Sets of causes to be made to apply: each alone, each pair, all.
+fn damages() -> Vec<Vec<u32>> {
+    let mut sets = vec![vec![6, 5, 4, 3, 2, 1]];
+    for high in (1..=6).rev() {
+        sets.push(vec![high]);
+        sets.extend((1..high).map(|low| vec![high, low]));
+    }
+    sets
+}
+
+fn check_good(
+    report: &mut Report,
+    random: &mut Random,
+    picture: &Picture,
+    truth: &ByDefinition,
+    attribute: u32,
+) {
+    let values = attribute_values(truth.levels, attribute);
+    let call = Call::good(picture, attribute, step_list(random, &values));
+    check_build(report, random, &call, truth);
+    check_map(report, random, &call, truth);
+    let single = vec![threshold(random, &values)];
+    let call = Call::good(picture, attribute, single);
+    check_open(report, random, &call, truth);
+}
+
+/// The attributes of all nodes.
+pub fn attribute_values(levels: &Levels, attribute: u32) -> Vec<u32> {
+    let of = |c: &Component| c.attributes[attribute as usize - 1];
+    levels.nodes().map(of).collect()
+}
+
+fn check_damaged(
+    report: &mut Report,
+    random: &mut Random,
+    picture: &Picture,
+    truth: &ByDefinition,
+    causes: &[u32],
+) {
+    let attribute = random.between(1, 3) as u32;
+    let values = attribute_values(truth.levels, attribute);
+    let good = Call::good(picture, attribute, step_list(random, &values));
+    for check in CHECKS {
+        let mut damaged = good.clone();
+        for cause in causes {
+            damage::apply(random, &mut damaged, *cause);
+        }
+        check(report, random, &damaged, truth);
+    }
+    if causes.contains(&4) {
+        let mut damaged = good.clone();
+        for cause in causes.iter().filter(|cause| **cause != 4) {
+            damage::apply(random, &mut damaged, *cause);
+        }
+        damage::list_order(random, &mut damaged);
+        check_map(report, random, &damaged, truth);
+    }
+}
+
+/// The two implementations here agree.
+fn check_fast(report: &mut Report, random: &mut Random, picture: &Picture, levels: &Levels) {
+    let forest = Forest::of(picture);
+    let attribute = random.between(1, 3) as u32;
+    let values = attribute_values(levels, attribute);
+    let steps = step_list(random, &values);
+    let (slow, fast) = (levels.record(attribute), forest.record(attribute));
+    let same = slow.workspace() == fast.workspace()
+        && slow.nodes == fast.nodes
+        && levels.opening(attribute, steps[0]) == forest.opening(attribute, steps[0])
+        && levels.maps(picture, attribute, &steps) == forest.maps(attribute, &steps);
+    let fault = (!same).then(|| String::from("fast and plain implementation differ"));
+    report.check(fault, || {
+        format!("{picture:?} attribute {attribute} steps {steps:?}")
+    });
+}
+
+pub fn run(report: &mut Report, seed: u64, cases: usize) {
+    let damages = damages();
+    for case in 0..cases {
+        let mut random = Random::for_case(seed, 1, case as u64);
+        let picture = pictures::small(&mut random, case);
+        let levels = Levels::of(&picture);
+        let truth = ByDefinition {
+            picture: &picture,
+            levels: &levels,
+        };
+        for attribute in 1..=3 {
+            check_good(report, &mut random, &picture, &truth, attribute);
+        }
+        check_damaged(
+            report,
+            &mut random,
+            &picture,
+            &truth,
+            &damages[case % damages.len()],
+        );
+        check_fast(report, &mut random, &picture, &levels);
+    }
+    report.check_all_met("build", &[1, 2, 3, 5]);
+    report.check_all_met("open", &[1, 2, 3, 4, 5, 6]);
+    report.check_all_met("map", &[1, 2, 3, 4, 5, 6]);
+}

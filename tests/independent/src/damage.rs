@@ -1,0 +1,159 @@
+// Ways to make a cause apply to a call.
+
+use crate::calls::Call;
+use crate::causes::{pixels, MOST_STEPS, MOST_THRESHOLD};
+use crate::random::Random;
+
+/// Makes cause 1 to 6 apply to the call, whatever else does.
+pub fn apply(random: &mut Random, call: &mut Call, cause: u32) {
+    match cause {
+        1 => sides(random, call),
+        2 => picture(random, call),
+        3 => call.frame.attribute = wrong_attribute(random),
+        4 => steps(random, call),
+        5 => call.workspace = other_length(random, call.workspace, call.picture.len()),
+        _ => outputs(random, call),
+    }
+}
+
+fn wrong_attribute(random: &mut Random) -> u32 {
+    random.pick(&[
+        0,
+        4,
+        5,
+        255,
+        256,
+        257,
+        258,
+        259,
+        65_537,
+        1 << 31,
+        (1 << 24) + 2,
+        u32::MAX,
+    ])
+}
+
+/// Sides whose product is too large, by 3 at the least, or wraps around to 0 or a small number.
+pub fn wrong_sides(random: &mut Random) -> (u32, u32) {
+    const PRODUCTS: [(u32, u32); 10] = [
+        (919, 1141),
+        (1141, 919),
+        (4096, 257),
+        (257, 4096),
+        (1025, 1024),
+        (1024, 1025),
+        (4096, 4096),
+        (65_536, 65_536),
+        (0, 0),
+        (u32::MAX, u32::MAX),
+    ];
+    random.pick(&PRODUCTS)
+}
+
+fn sides(random: &mut Random, call: &mut Call) {
+    let wrong = random.pick(&[0, 4097, 4098, 65_536, 65_537, 1 << 31, u32::MAX]);
+    match random.below(4) {
+        0 => call.frame.width = wrong,
+        1 => call.frame.height = wrong,
+        2 => call.frame.width |= random.pick(&[1 << 16, 1 << 30, 1 << 31]),
+        _ => (call.frame.width, call.frame.height) = wrong_sides(random),
+    }
+}
+
+/// A length other than the one due, near it or a part or a multiple of it.
+fn other_length(random: &mut Random, due: usize, n: usize) -> usize {
+    let choices = [
+        due + 1,
+        due.saturating_sub(1),
+        0,
+        2 * due,
+        due + n,
+        due.saturating_sub(n),
+    ];
+    let length = random.pick(&choices);
+    if length == due {
+        due + 1
+    } else {
+        length
+    }
+}
+
+/// Another number of bytes, or other sides that are good and have another n.
+fn picture(random: &mut Random, call: &mut Call) {
+    let bytes = call.picture.len();
+    if random.chance(1, 2) {
+        let grey = random.byte();
+        let length = other_length(random, bytes, bytes / 2);
+        call.picture.resize(length, grey);
+    } else {
+        (call.frame.width, call.frame.height) = other_sides(random, bytes);
+    }
+}
+
+/// Sides within the bounds whose n is not `n`.
+pub fn other_sides(random: &mut Random, n: usize) -> (u32, u32) {
+    loop {
+        let sides = match random.below(4) {
+            0 => (n as u32 + 1, 1),
+            1 => (1, n as u32 + 1),
+            2 => (4096, 256),
+            _ => (random.between(1, 64) as u32, random.between(1, 64) as u32),
+        };
+        if pixels(sides.0, sides.1).is_ok_and(|named| named != n) {
+            return sides;
+        }
+    }
+}
+
+/// A threshold out of range. A call with one threshold takes the first of the list.
+fn steps(random: &mut Random, call: &mut Call) {
+    let out_of_range = [
+        0,
+        MOST_THRESHOLD + 1,
+        MOST_THRESHOLD + 2,
+        1 << 24,
+        1 << 31,
+        u32::MAX,
+    ];
+    let wrong = random.pick(&out_of_range);
+    let last = call.steps.len() - 1;
+    match random.below(4) {
+        0 => call.steps[0] = wrong,
+        1 => call.steps[last] = wrong,
+        2 => call.steps.fill(wrong),
+        _ => call.steps.insert(0, wrong),
+    }
+}
+
+/// A list that is empty, too long or not strictly rising, every threshold in range.
+pub fn list_order(random: &mut Random, call: &mut Call) {
+    match random.below(6) {
+        0 => call.steps.clear(),
+        1 => call.steps = (1..=MOST_STEPS as u32 + 1).collect(),
+        2 => {
+            let length = random.between(MOST_STEPS + 1, 3 * MOST_STEPS) as u32;
+            call.steps = (1..=length).collect();
+        }
+        3 => {
+            let at = random.below(call.steps.len());
+            call.steps.insert(at, call.steps[at]);
+        }
+        4 if call.steps.len() > 1 => {
+            let at = random.below(call.steps.len() - 1);
+            call.steps.swap(at, at + 1);
+        }
+        _ => call.steps.push(1),
+    }
+}
+
+fn outputs(random: &mut Random, call: &mut Call) {
+    let due = call.outputs[0];
+    let which = random.below(3);
+    let wrong = other_length(random, due, due / 2);
+    if which != 1 {
+        call.outputs[0] = wrong;
+    }
+    if which != 0 {
+        call.outputs[1] = other_length(random, due, due / 2);
+    }
+}

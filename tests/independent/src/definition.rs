@@ -1,0 +1,229 @@
+// Paper 01, "Picture, nodes, openings", "Steps and maps" and "Tree record", word for word: level
+// sets, components by flood fill, nodes, representatives, parents, openings, residues. Nothing here
+// is meant to be fast.
+
+#[derive(Clone, Debug)]
+pub struct Picture {
+    pub width: usize,
+    pub height: usize,
+    pub greys: Vec<u8>,
+}
+
+impl Picture {
+    pub fn pixels(&self) -> usize {
+        self.width * self.height
+    }
+
+    pub fn least(&self) -> u8 {
+        *self.greys.iter().min().expect("a picture has a pixel")
+    }
+
+    /// Neighbours share an edge.
+    pub fn neighbours(&self, p: usize) -> Vec<usize> {
+        let (row, column) = (p / self.width, p % self.width);
+        let mut found = Vec::with_capacity(4);
+        if row > 0 {
+            found.push(p - self.width);
+        }
+        if column > 0 {
+            found.push(p - 1);
+        }
+        if column + 1 < self.width {
+            found.push(p + 1);
+        }
+        if row + 1 < self.height {
+            found.push(p + self.width);
+        }
+        found
+    }
+}
+
+/// A connected component of the level set at `level`, its pixels in order of position.
+pub struct Component {
+    pub level: u8,
+    pub pixels: Vec<usize>,
+    /// Attributes 1, 2 and 3: area, height and width.
+    pub attributes: [u32; 3],
+    /// Pixels of grey exactly `level`, in order of position. A node has at least one.
+    pub own: Vec<usize>,
+}
+
+/// The components of the level sets at every grey that occurs, darkest grey first. At a grey that
+/// does not occur the level set is that of the next one that does, and no component is a node.
+pub struct Levels {
+    pub components: Vec<Component>,
+    /// For each pixel, the components that hold it, brightest level first.
+    pub holding: Vec<Vec<usize>>,
+    least: u8,
+}
+
+pub struct Record {
+    pub parents: Vec<u32>,
+    pub attributes: Vec<u32>,
+    pub nodes: u32,
+}
+
+impl Record {
+    /// The 6n words: parents, attributes, scratch at zero.
+    pub fn workspace(&self) -> Vec<u32> {
+        let n = self.parents.len();
+        let mut words = self.parents.clone();
+        words.extend(&self.attributes);
+        words.resize(6 * n, 0);
+        words
+    }
+}
+
+fn flood_fill(picture: &Picture, level: u8, from: usize, seen: &mut [bool]) -> Vec<usize> {
+    let mut pixels = vec![from];
+    seen[from] = true;
+    let mut next = 0;
+    while next < pixels.len() {
+        for q in picture.neighbours(pixels[next]) {
+            if picture.greys[q] >= level && !seen[q] {
+                seen[q] = true;
+                pixels.push(q);
+            }
+        }
+        next += 1;
+    }
+    pixels.sort_unstable();
+    pixels
+}
+
+/// Last less first, plus 1.
+fn extent(places: impl Iterator<Item = usize> + Clone) -> u32 {
+    let last = places.clone().max().expect("not empty");
+    let first = places.min().expect("not empty");
+    (last - first + 1) as u32
+}
+
+fn component(picture: &Picture, level: u8, pixels: Vec<usize>) -> Component {
+    let rows = pixels.iter().map(|p| p / picture.width);
+    let columns = pixels.iter().map(|p| p % picture.width);
+    let attributes = [pixels.len() as u32, extent(rows), extent(columns)];
+    let is_own = |p: &usize| picture.greys[*p] == level;
+    let own = pixels.iter().copied().filter(is_own).collect();
+    Component {
+        level,
+        pixels,
+        attributes,
+        own,
+    }
+}
+
+impl Levels {
+    pub fn of(picture: &Picture) -> Levels {
+        let mut levels = Levels {
+            components: Vec::new(),
+            holding: vec![Vec::new(); picture.pixels()],
+            least: picture.least(),
+        };
+        let mut greys = picture.greys.clone();
+        greys.sort_unstable();
+        greys.dedup();
+        for level in greys {
+            levels.add_level(picture, level);
+        }
+        for holding in &mut levels.holding {
+            holding.reverse();
+        }
+        levels
+    }
+
+    fn add_level(&mut self, picture: &Picture, level: u8) {
+        let mut seen = vec![false; picture.pixels()];
+        for p in 0..picture.pixels() {
+            if picture.greys[p] >= level && !seen[p] {
+                let pixels = flood_fill(picture, level, p, &mut seen);
+                for q in &pixels {
+                    self.holding[*q].push(self.components.len());
+                }
+                self.components.push(component(picture, level, pixels));
+            }
+        }
+    }
+
+    pub fn nodes(&self) -> impl Iterator<Item = &Component> {
+        self.components.iter().filter(|c| !c.own.is_empty())
+    }
+
+    /// The attributes of all nodes but the root, the node at the least grey.
+    pub fn removable(&self, attribute: u32) -> impl Iterator<Item = u32> + '_ {
+        let removable = self.nodes().filter(|c| c.level > self.least);
+        removable.map(move |c| c.attributes[attribute as usize - 1])
+    }
+
+    /// The smallest node that strictly contains `node`.
+    fn parent(&self, node: &Component) -> Option<&Component> {
+        let holding = self.holding[node.pixels[0]].iter();
+        holding
+            .map(|c| &self.components[*c])
+            .filter(|c| !c.own.is_empty() && c.pixels.len() > node.pixels.len())
+            .min_by_key(|c| c.pixels.len())
+    }
+
+    pub fn record(&self, attribute: u32) -> Record {
+        let n = self.holding.len();
+        let mut record = Record {
+            parents: vec![u32::MAX; n],
+            attributes: vec![0; n],
+            nodes: self.nodes().count() as u32,
+        };
+        for node in self.nodes() {
+            let representative = node.own[0];
+            for p in &node.own {
+                record.parents[*p] = representative as u32;
+            }
+            let above = self.parent(node).map_or(representative, |c| c.own[0]);
+            record.parents[representative] = above as u32;
+            record.attributes[representative] = node.attributes[attribute as usize - 1];
+        }
+        record
+    }
+
+    /// The greatest h for which the pixel's component at h has attribute t or more, the least grey
+    /// if there is none. Only greys that occur need be tried: between two of them the level set
+    /// is that of the brighter one.
+    pub fn opening(&self, attribute: u32, threshold: u32) -> Vec<u8> {
+        let enough = |c: &&Component| c.attributes[attribute as usize - 1] >= threshold;
+        let opened = |holding: &Vec<usize>| {
+            let mut components = holding.iter().map(|c| &self.components[*c]);
+            components.find(enough).map_or(self.least, |c| c.level)
+        };
+        self.holding.iter().map(opened).collect()
+    }
+
+    /// Residue map and index map of a step list.
+    pub fn maps(&self, picture: &Picture, attribute: u32, steps: &[u32]) -> (Vec<u8>, Vec<u16>) {
+        let mut openings = vec![picture.greys.clone()];
+        openings.extend(steps.iter().map(|t| self.opening(attribute, *t)));
+        largest_falls(&openings)
+    }
+}
+
+/// For pictures of which each is at most the one before: the largest fall at each pixel, and the
+/// largest number, from 1, of a fall that attains it; 0 where it is 0.
+pub fn largest_falls(pictures: &[Vec<u8>]) -> (Vec<u8>, Vec<u16>) {
+    let n = pictures[0].len();
+    let mut residue = vec![0u8; n];
+    let mut index = vec![0u16; n];
+    for p in 0..n {
+        for i in 0..pictures.len() - 1 {
+            let fall = pictures[i][p].saturating_sub(pictures[i + 1][p]);
+            if fall > 0 && fall >= residue[p] {
+                residue[p] = fall;
+                index[p] = i as u16 + 1;
+            }
+        }
+    }
+    (residue, index)
+}
+
+/// Is `new` a leveling of the picture: for neighbours p, q, if new p exceeds new q, then old p is
+/// at least new p and new q at least old q.
+pub fn is_leveling(picture: &Picture, new: &[u8]) -> bool {
+    let old = &picture.greys;
+    let fits = |p: usize, q: usize| new[p] <= new[q] || (old[p] >= new[p] && new[q] >= old[q]);
+    (0..picture.pixels()).all(|p| picture.neighbours(p).into_iter().all(|q| fits(p, q)))
+}

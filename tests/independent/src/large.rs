@@ -1,0 +1,68 @@
+// A few large pictures, at the bounds of the sides and of n, against the fast implementation.
+
+use crate::calls::{check_build, check_map, check_open, Call};
+use crate::definition::Picture;
+use crate::fast::Forest;
+use crate::pictures::KINDS;
+use crate::random::Random;
+use crate::report::Report;
+
+const SIZES: [(&str, usize, usize); 12] = [
+    ("floc", 1024, 1024),
+    ("noise", 1024, 1024),
+    ("ramp", 1024, 1024),
+    ("checkerboard", 1024, 1024),
+    ("spiral", 1024, 1024),
+    ("flat", 1024, 1024),
+    ("comb", 4096, 256),
+    ("floc", 256, 4096),
+    ("few greys", 4096, 255),
+    ("noise", 1, 4096),
+    ("noise", 4096, 1),
+    ("bridges", 1000, 1001),
+];
+
+fn picture(random: &mut Random, kind: &str, width: usize, height: usize) -> Picture {
+    let (_, maker) = KINDS
+        .iter()
+        .find(|(name, _)| *name == kind)
+        .expect("a kind");
+    let greys = maker(random, width, height);
+    Picture {
+        width,
+        height,
+        greys,
+    }
+}
+
+/// 1 to 256, or sizes that grow by a twentieth.
+fn steps(random: &mut Random) -> Vec<u32> {
+    if random.chance(1, 2) {
+        return (1..=256).collect();
+    }
+    let mut steps = vec![random.between(1, 3) as u32];
+    while steps.len() < 256 {
+        let last = steps[steps.len() - 1];
+        steps.push(last + 1 + last / 20);
+    }
+    steps.retain(|t| *t <= 1_048_577);
+    steps
+}
+
+pub fn run(report: &mut Report, seed: u64) {
+    for (case, (kind, width, height)) in SIZES.into_iter().enumerate() {
+        let mut random = Random::for_case(seed, 5, case as u64);
+        let picture = picture(&mut random, kind, width, height);
+        let forest = Forest::of(&picture);
+        for attribute in 1..=3 {
+            let call = Call::good(&picture, attribute, steps(&mut random));
+            check_build(report, &mut random, &call, &forest);
+            if attribute as usize == 1 + case % 3 {
+                check_map(report, &mut random, &call, &forest);
+            }
+            let single = random.pick(&[2, 5, 12, 60, 900, 1024, 1_048_576, 1_048_577]);
+            let call = Call::good(&picture, attribute, vec![single]);
+            check_open(report, &mut random, &call, &forest);
+        }
+    }
+}

@@ -1,0 +1,107 @@
+// Binary PGM by the Netpbm page and paper 01, "PGM".
+
+use crate::causes::pixels;
+
+#[derive(Clone, Copy, Debug, PartialEq)]
+pub struct Head {
+    pub width: u32,
+    pub height: u32,
+    pub maximum: u32,
+    pub raster: usize,
+}
+
+pub fn is_white(byte: u8) -> bool {
+    matches!(byte, 9 | 10 | 13 | 32)
+}
+
+/// The bytes after a gap: a white byte, then white bytes and comments, each from # through the
+/// next 10 or 13.
+fn after_gap(bytes: &[u8]) -> Option<&[u8]> {
+    let (first, mut rest) = bytes.split_first()?;
+    if !is_white(*first) {
+        return None;
+    }
+    loop {
+        match rest.first()? {
+            b'#' => {
+                let end = rest.iter().position(|b| matches!(b, 10 | 13))?;
+                rest = &rest[end + 1..];
+            }
+            byte if is_white(*byte) => rest = &rest[1..],
+            _ => return Some(rest),
+        }
+    }
+}
+
+/// A gap, then a number of 1 to 7 digits; what follows is no digit.
+fn gap_and_number(bytes: &[u8]) -> Option<(u32, &[u8])> {
+    let text = after_gap(bytes)?;
+    let digits = text.iter().take_while(|b| b.is_ascii_digit()).count();
+    if !(1..=7).contains(&digits) {
+        return None;
+    }
+    let value = text[..digits]
+        .iter()
+        .fold(0, |value, digit| value * 10 + u32::from(digit - b'0'));
+    Some((value, &text[digits..]))
+}
+
+/// Width, height, maximum, and where the raster starts; no value is judged.
+fn header(file: &[u8]) -> Option<Head> {
+    let (width, rest) = gap_and_number(&file[2..])?;
+    let (height, rest) = gap_and_number(rest)?;
+    let (maximum, rest) = gap_and_number(rest)?;
+    let (white, raster) = rest.split_first()?;
+    is_white(*white).then_some(Head {
+        width,
+        height,
+        maximum,
+        raster: file.len() - raster.len(),
+    })
+}
+
+/// Refused in the order 8, 9, 10, 1, 11, 12.
+pub fn read(file: &[u8]) -> Result<Head, u32> {
+    if !file.starts_with(b"P5") {
+        return Err(8);
+    }
+    let head = header(file).ok_or(9u32)?;
+    if !(1..=255).contains(&head.maximum) {
+        return Err(10);
+    }
+    let n = pixels(head.width, head.height)?;
+    let raster = &file[head.raster..];
+    if raster.len() != n {
+        return Err(11);
+    }
+    if raster.iter().any(|grey| u32::from(*grey) > head.maximum) {
+        return Err(12);
+    }
+    Ok(head)
+}
+
+/// The whole file, or the cause in the order 1, 2, 10, 12, 7.
+pub fn write(
+    picture: &[u8],
+    width: u32,
+    height: u32,
+    maximum: u32,
+    room: usize,
+) -> Result<Vec<u8>, u32> {
+    let n = pixels(width, height)?;
+    if picture.len() != n {
+        return Err(2);
+    }
+    if !(1..=255).contains(&maximum) {
+        return Err(10);
+    }
+    if picture.iter().any(|grey| u32::from(*grey) > maximum) {
+        return Err(12);
+    }
+    let mut file = format!("P5\n{width} {height}\n{maximum}\n").into_bytes();
+    file.extend(picture);
+    if room < file.len() {
+        return Err(7);
+    }
+    Ok(file)
+}

@@ -1,0 +1,241 @@
+// Pictures of many kinds, any size.
+
+use crate::definition::Picture;
+use crate::random::Random;
+
+type Maker = fn(&mut Random, usize, usize) -> Vec<u8>;
+
+pub const KINDS: [(&str, Maker); 13] = [
+    ("few greys", few_greys),
+    ("noise", noise),
+    ("floc", floc),
+    ("plateaus", plateaus),
+    ("borders", borders),
+    ("checkerboard", checkerboard),
+    ("spiral", spiral),
+    ("ramp", ramp),
+    ("flat", flat),
+    ("rings", rings),
+    ("comb", comb),
+    ("bridges", bridges),
+    ("two ends", two_ends),
+];
+
+fn by_place(width: usize, height: usize, mut grey: impl FnMut(usize, usize) -> u8) -> Vec<u8> {
+    let mut greys = Vec::with_capacity(width * height);
+    for row in 0..height {
+        for column in 0..width {
+            greys.push(grey(row, column));
+        }
+    }
+    greys
+}
+
+fn few_greys(random: &mut Random, width: usize, height: usize) -> Vec<u8> {
+    let count = random.between(2, 5);
+    let palette: Vec<u8> = (0..count).map(|_| random.byte()).collect();
+    by_place(width, height, |_, _| random.pick(&palette))
+}
+
+fn noise(random: &mut Random, width: usize, height: usize) -> Vec<u8> {
+    by_place(width, height, |_, _| random.byte())
+}
+
+/// Bright discs of many sizes on a dark, slightly uneven ground.
+fn floc(random: &mut Random, width: usize, height: usize) -> Vec<u8> {
+    let mut greys = by_place(width, height, |row, column| {
+        30 + ((row + 2 * column) % 97 / 12) as u8 + random.below(4) as u8
+    });
+    let discs = 1 + width * height / 250;
+    for _ in 0..discs {
+        let radius = match random.below(20) {
+            0 => random.below(20),
+            1..=4 => random.below(8),
+            _ => random.below(4),
+        };
+        let bright = random.between(60, 250);
+        disc(random, &mut greys, (width, height), radius, bright);
+    }
+    greys
+}
+
+fn disc(random: &mut Random, greys: &mut [u8], size: (usize, usize), radius: usize, bright: usize) {
+    let (row, column) = (random.below(size.1), random.below(size.0));
+    for y in row.saturating_sub(radius)..(row + radius + 1).min(size.1) {
+        for x in column.saturating_sub(radius)..(column + radius + 1).min(size.0) {
+            let far = y.abs_diff(row).pow(2) + x.abs_diff(column).pow(2);
+            if far <= radius * radius {
+                let faded = bright - bright * far / (2 * radius * radius + 2);
+                let grey = (faded + random.below(6)).min(255) as u8;
+                let at = y * size.0 + x;
+                greys[at] = greys[at].max(grey);
+            }
+        }
+    }
+}
+
+/// Rectangles of one grey over each other.
+fn plateaus(random: &mut Random, width: usize, height: usize) -> Vec<u8> {
+    let mut greys = vec![random.byte(); width * height];
+    for _ in 0..random.between(1, 8) {
+        let (top, left) = (random.below(height), random.below(width));
+        let bottom = random.between(top, height - 1);
+        let right = random.between(left, width - 1);
+        let grey = random.byte();
+        for row in top..=bottom {
+            greys[row * width + left..=row * width + right].fill(grey);
+        }
+    }
+    greys
+}
+
+/// One grey inside, others along the frame.
+fn borders(random: &mut Random, width: usize, height: usize) -> Vec<u8> {
+    let inside = random.byte();
+    let palette = [random.byte(), random.byte(), inside];
+    by_place(width, height, |row, column| {
+        let edge = row == 0 || column == 0 || row + 1 == height || column + 1 == width;
+        if edge {
+            random.pick(&palette)
+        } else {
+            inside
+        }
+    })
+}
+
+fn checkerboard(random: &mut Random, width: usize, height: usize) -> Vec<u8> {
+    let palette = [random.byte(), random.byte()];
+    let square = random.between(1, 3);
+    by_place(width, height, |row, column| {
+        palette[(row / square + column / square) % 2]
+    })
+}
+
+/// A path one pixel wide that winds inward, with walls between its turns.
+fn spiral(random: &mut Random, width: usize, height: usize) -> Vec<u8> {
+    let (path, wall) = (random.byte(), random.byte());
+    let fading = random.chance(1, 2);
+    let mut greys = vec![wall; width * height];
+    let (mut top, mut left) = (0usize, 0usize);
+    let (mut bottom, mut right) = (height as isize - 1, width as isize - 1);
+    let mut turn = 0u8;
+    while top as isize <= bottom && left as isize <= right {
+        let grey = if fading {
+            path.wrapping_add(turn)
+        } else {
+            path
+        };
+        let (last_row, last_column) = (bottom as usize, right as usize);
+        greys[top * width + left..=top * width + last_column].fill(grey);
+        for row in top..=last_row {
+            greys[row * width + last_column] = grey;
+            if row > top + 1 {
+                greys[row * width + left] = grey;
+            }
+        }
+        greys[last_row * width + left..=last_row * width + last_column].fill(grey);
+        turn = turn.wrapping_add(1);
+        (top, left) = (top + 2, left + 2);
+        (bottom, right) = (bottom - 2, right - 2);
+        if top < height && left < width && top as isize <= bottom {
+            greys[top * width + left - 1] = grey;
+        }
+    }
+    greys
+}
+
+fn ramp(random: &mut Random, width: usize, height: usize) -> Vec<u8> {
+    let (down, across) = (random.below(5), random.below(5));
+    let base = random.below(256);
+    let falling = random.chance(1, 2);
+    by_place(width, height, |row, column| {
+        let grey = ((base + row * down + column * across) % 256) as u8;
+        if falling {
+            255 - grey
+        } else {
+            grey
+        }
+    })
+}
+
+fn flat(random: &mut Random, width: usize, height: usize) -> Vec<u8> {
+    vec![random.byte(); width * height]
+}
+
+/// Nested frames whose greys rise, fall or jump.
+fn rings(random: &mut Random, width: usize, height: usize) -> Vec<u8> {
+    let most = width.min(height) / 2 + 1;
+    let step = random.byte();
+    let palette: Vec<u8> = match random.below(3) {
+        0 => (0..most).map(|k| (k * 7 % 256) as u8).collect(),
+        1 => (0..most).map(|k| 255 - (k * 7 % 256) as u8).collect(),
+        _ => (0..most).map(|k| step.wrapping_mul(k as u8 + 1)).collect(),
+    };
+    by_place(width, height, |row, column| {
+        let depth = row
+            .min(column)
+            .min(height - 1 - row)
+            .min(width - 1 - column);
+        palette[depth]
+    })
+}
+
+/// Teeth of one grey that meet only through a brighter spine.
+fn comb(random: &mut Random, width: usize, height: usize) -> Vec<u8> {
+    let (dark, rise) = (random.below(200) as u8, random.between(1, 27) as u8);
+    let spine = random.below(height);
+    by_place(width, height, |row, column| {
+        match (row == spine, column % 2) {
+            (true, _) => dark + 2 * rise,
+            (false, 0) => dark + rise,
+            (false, _) => dark,
+        }
+    })
+}
+
+/// Flat patches in a dark net, with a few bridges.
+fn bridges(random: &mut Random, width: usize, height: usize) -> Vec<u8> {
+    let cell = random.between(2, 5);
+    let palette = [random.byte(), random.byte(), random.byte()];
+    let dark = random.below(40) as u8;
+    let mut patch = Vec::new();
+    for _ in 0..(width / cell + 1) * (height / cell + 1) {
+        patch.push(random.pick(&palette));
+    }
+    by_place(width, height, |row, column| {
+        let net = row % cell == 0 || column % cell == 0;
+        if net && random.chance(5, 6) {
+            dark
+        } else {
+            patch[row / cell * (width / cell + 1) + column / cell]
+        }
+    })
+}
+
+/// Greys 0, 1, 254 and 255 only.
+fn two_ends(random: &mut Random, width: usize, height: usize) -> Vec<u8> {
+    by_place(width, height, |_, _| random.pick(&[0, 1, 254, 255]))
+}
+
+fn small_size(random: &mut Random) -> (usize, usize) {
+    match random.below(100) {
+        0..=4 => (1, random.between(1, 80)),
+        5..=9 => (random.between(1, 80), 1),
+        10..=14 => (random.between(1, 3), random.between(1, 30)),
+        15..=19 => (random.between(1, 30), random.between(1, 3)),
+        20..=27 => (random.between(8, 20), random.between(8, 20)),
+        28 => (random.between(20, 36), random.between(20, 36)),
+        _ => (random.between(1, 9), random.between(1, 9)),
+    }
+}
+
+pub fn small(random: &mut Random, case: usize) -> Picture {
+    let (width, height) = small_size(random);
+    let (_, maker) = KINDS[case % KINDS.len()];
+    let greys = maker(random, width, height);
+    Picture {
+        width,
+        height,
+        greys,
+    }
+}

@@ -1,0 +1,287 @@
+// The program `basin`, run in a folder of its own for each case; what it prints is held to paper
+// 01.
+
+use crate::calls::step_list;
+use crate::pgm;
+use crate::pictures;
+use crate::random::Random;
+use crate::report::{shown, Report};
+use crate::steps;
+use std::fs;
+use std::io;
+use std::path::{Path, PathBuf};
+use std::process::Command;
+
+/// What stands under a file's name.
+#[derive(Clone, Debug)]
+enum Entry {
+    File(Vec<u8>),
+    Folder,
+    Nothing,
+}
+
+impl Entry {
+    fn readable(&self) -> Option<&[u8]> {
+        match self {
+            Entry::File(bytes) => Some(bytes),
+            _ => None,
+        }
+    }
+
+    fn shown(&self) -> String {
+        self.readable().map_or(format!("{self:?}"), shown)
+    }
+
+    fn place(&self, path: &Path) -> io::Result<()> {
+        match self {
+            Entry::File(bytes) => fs::write(path, bytes),
+            Entry::Folder => fs::create_dir(path),
+            Entry::Nothing => Ok(()),
+        }
+    }
+}
+
+fn basin_file(random: &mut Random, case: usize) -> Vec<u8> {
+    let picture = pictures::small(random, case);
+    let (width, height) = (picture.width as u32, picture.height as u32);
+    pgm::write(&picture.greys, width, height, 255, usize::MAX).expect("a good picture")
+}
+
+fn steps_file(random: &mut Random) -> Vec<u8> {
+    let word = random.pick(&["area", "height", "width"]);
+    let list = step_list(random, &[1, 2, 3, 5, 8, 13, 40]);
+    let mut text = format!("attribute\t{word}\n");
+    for t in list {
+        text += &format!("step\t{t}\n");
+    }
+    text.into_bytes()
+}
+
+/// Steps files that are refused, or are just not.
+const ODD_STEPS: [&[u8]; 34] = [
+    b"",
+    b"\n",
+    b"attribute\tarea\n",
+    b"attribute\tarea",
+    b"attribute\tarea\nstep\t1",
+    b"attribute\tarea\r\nstep\t1\r\n",
+    b"attribute\tarea\n\nstep\t1\n",
+    b"attribute\tarea\nattribute\tarea\nstep\t1\n",
+    b"attribute\tarea\nstep\t1\n\n",
+    b"attribute\tarea\nstep\t1\nx",
+    b"attribute area\nstep\t1\n",
+    b"attribute\t\nstep\t1\n",
+    b"attribute\tArea\nstep\t1\n",
+    b"attribute\tvolume\nstep\t1\n",
+    b"attribute\tvolume\nstep\t2\nstep\t1\n",
+    b"attribute\tvolume\n",
+    b"attribute\tvolume\nstep\t1",
+    b"attribute\tvolume\nstep\t01\n",
+    b"attribute\tabcdefgh\nstep\t1\n",
+    b"attribute\tabcdefghi\nstep\t1\n",
+    b"attribute\tarea\nstep\t0\n",
+    b"attribute\tarea\nstep\t0\nstep\t01\n",
+    b"attribute\tarea\nstep\t01\n",
+    b"attribute\tarea\nstep\t00\n",
+    b"attribute\tarea\nstep\t\n",
+    b"attribute\tarea\nstep\t1048577\n",
+    b"attribute\tarea\nstep\t1048578\n",
+    b"attribute\tarea\nstep\t9999999\n",
+    b"attribute\tarea\nstep\t10000000\n",
+    b"attribute\tarea\nstep\t2\nstep\t2\n",
+    b"attribute\tarea\nstep\t3\nstep\t2\n",
+    b"attribute\tarea\nstep\t2 \n",
+    b"attribute\tarea\nstep\t-2\n",
+    b"step\t1\nattribute\tarea\n",
+];
+
+/// Pictures that are refused, each cause of the reader at least once.
+const ODD_PICTURES: [&[u8]; 14] = [
+    b"",
+    b"P",
+    b"P4\n1 1\n255\nx",
+    b"P5",
+    b"P5\n1 1\n255",
+    b"P5\n1 1\n#\n255#\nx",
+    b"P5\n1 1\n0\nx",
+    b"P5\n0 0\n256\n",
+    b"P5\n0 1\n255\n",
+    b"P5\n4097 1\n255\nx",
+    b"P5\n1 1\n255\n",
+    b"P5\n1 1\n255\nxx",
+    b"P5\n1 1\n9\n\x0a",
+    b"P5\n2049 1\n1\n",
+];
+
+/// Paper 01's example.
+const EXAMPLE: (&[u8], &[u8], &str) = (
+    b"P5\n3 1\n255\n\x0a\x28\x0a",
+    b"attribute\tarea\nstep\t1\nstep\t2\n",
+    "row\tcol\tgrey\tresidue\tindex\n0\t0\t10\t0\t0\n0\t1\t40\t30\t2\n0\t2\t10\t0\t0\n",
+);
+
+/// Lists that are one step too long, or just not, some with a fault in their last line.
+fn long_steps(random: &mut Random) -> Vec<u8> {
+    let count = random.pick(&[255, 256, 257, 300]);
+    let mut text = String::from("attribute\tarea\n");
+    for t in 1..=count {
+        text += &format!("step\t{t}\n");
+    }
+    text += random.pick(&["", "", "step\t05\n", "step\t400"]);
+    text.into_bytes()
+}
+
+fn mutate(random: &mut Random, file: &mut Vec<u8>) {
+    if file.is_empty() {
+        return;
+    }
+    let at = random.below(file.len());
+    let byte = if random.chance(1, 3) {
+        random.byte()
+    } else {
+        random.pick(b"\t\n0159aestz ")
+    };
+    match random.below(4) {
+        0 => file[at] = byte,
+        1 => file.insert(at, byte),
+        2 => drop(file.remove(at)),
+        _ => file.truncate(at),
+    }
+}
+
+/// A file that is as long as may be, or a byte longer: a comment fills it up.
+fn filled(random: &mut Random, raster: usize) -> Vec<u8> {
+    let length = random.pick(&[4095, 4096, 4097, 4098, 9000]);
+    let (start, end) = ("P5\n#", format!("\n{raster} 1\n255\n"));
+    let fill = length - raster - start.len() - end.len();
+    [
+        start.as_bytes(),
+        &vec![b'x'; fill],
+        end.as_bytes(),
+        &vec![7; raster],
+    ]
+    .concat()
+}
+
+/// A picture about as large as the program takes.
+fn bound(random: &mut Random) -> Vec<u8> {
+    let (width, height) = random.pick(&[(2048, 1), (1, 2048), (2049, 1), (64, 32), (683, 3)]);
+    let greys: Vec<u8> = (0..width * height)
+        .map(|_| random.pick(&[3, 9, 200]))
+        .collect();
+    pgm::write(&greys, width, height, 255, usize::MAX).expect("a good picture")
+}
+
+/// A file that is good, damaged or too long, or none: kind 0 to 6.
+fn basin_entry(random: &mut Random, case: usize, kind: usize) -> Entry {
+    let mut file = basin_file(random, case);
+    match kind {
+        0 => mutate(random, &mut file),
+        1 => {
+            let raster = random.pick(&[1, 100, 2048, 2049]);
+            file = filled(random, raster);
+        }
+        2 => file = bound(random),
+        3 => return unreadable(random),
+        4 => file.resize(5000, 0),
+        _ => {}
+    }
+    Entry::File(file)
+}
+
+fn steps_entry(random: &mut Random, kind: usize) -> Entry {
+    let mut file = steps_file(random);
+    match kind {
+        0 => mutate(random, &mut file),
+        1 => file = random.pick(&ODD_STEPS).to_vec(),
+        2 => file = long_steps(random),
+        3 => return unreadable(random),
+        4 => {
+            let length = random.pick(&[4096, 4097, 5000]);
+            file.resize(length, b'\n');
+        }
+        _ => {}
+    }
+    Entry::File(file)
+}
+
+fn unreadable(random: &mut Random) -> Entry {
+    if random.chance(1, 2) {
+        Entry::Folder
+    } else {
+        Entry::Nothing
+    }
+}
+
+/// The program and a folder for it to run in.
+struct Place {
+    program: PathBuf,
+    folder: PathBuf,
+}
+
+impl Place {
+    /// What the program writes to both of its outputs, in a folder with these two entries.
+    fn printed(&self, basin: &Entry, steps: &Entry) -> io::Result<Vec<u8>> {
+        fs::create_dir_all(&self.folder)?;
+        basin.place(&self.folder.join("basin.pgm"))?;
+        steps.place(&self.folder.join("steps.tsv"))?;
+        let output = Command::new(&self.program)
+            .current_dir(&self.folder)
+            .output()?;
+        fs::remove_dir_all(&self.folder)?;
+        Ok([output.stdout, output.stderr].concat())
+    }
+
+    fn check(&self, report: &mut Report, basin: &Entry, steps: &Entry) {
+        let due = steps::printed(basin.readable(), steps.readable());
+        let refusal = due.strip_prefix("refused\t").map(str::trim_end);
+        report.met(
+            "program",
+            refusal.map_or(0, |number| number.parse().unwrap_or(0)),
+        );
+        let fault = match self.printed(basin, steps) {
+            Ok(text) if text == due.as_bytes() => None,
+            Ok(text) => Some(format!(
+                "printed {}\n  due {}",
+                shown(&text),
+                shown(due.as_bytes())
+            )),
+            Err(error) => Some(format!("not run: {error}")),
+        };
+        report.check(fault, || {
+            format!("basin.pgm {}, steps.tsv {}", basin.shown(), steps.shown())
+        });
+    }
+
+    /// The example, and each odd file beside a good one and beside a bad one.
+    fn systematic(&self, report: &mut Report) {
+        let (basin, steps, due) = EXAMPLE;
+        let same = steps::printed(Some(basin), Some(steps)) == due;
+        let fault = (!same).then(|| String::from("not as paper 01 prints it"));
+        report.check(fault, || String::from("definition here: the example"));
+        let file = |bytes: &[u8]| Entry::File(bytes.to_vec());
+        self.check(report, &file(basin), &file(steps));
+        for odd in ODD_STEPS {
+            self.check(report, &file(basin), &file(odd));
+        }
+        for odd in ODD_PICTURES {
+            self.check(report, &file(odd), &file(steps));
+            self.check(report, &file(odd), &file(b"attribute\tarea\n"));
+        }
+    }
+}
+
+pub fn run(report: &mut Report, seed: u64, cases: usize, program: &str) {
+    let place = Place {
+        program: fs::canonicalize(program).unwrap_or_else(|_| PathBuf::from(program)),
+        folder: std::env::temp_dir().join(format!("teldruf-{}", std::process::id())),
+    };
+    place.systematic(report);
+    for case in 0..cases {
+        let mut random = Random::for_case(seed, 6, case as u64);
+        let basin = basin_entry(&mut random, case, case % 7);
+        let steps = steps_entry(&mut random, case / 7 % 7);
+        place.check(report, &basin, &steps);
+    }
+    report.check_all_met("program", &[15, 14, 8, 9, 10, 1, 11, 12, 13, 3, 4]);
+}
