@@ -10,39 +10,12 @@ use borrow.Author.Tests.{leb-true, eqb-true}
 use Rattle.sets.proofs.Tests.{and-left, and-right}
 use Rattle.opening.specs.Residue.{rising}
 use Rattle.causes.specs.Sides.{sides-fit}
+pub use Rattle.causes.proofs.Laws.{Bounded, bounded}
 use Rattle.causes.specs.declared.Cause.{Cause}
 use Rattle.causes.specs.declared.Cause.the-variants.{Sides, PictureLength, Attribute, Steps, Workspace, Output}
 use Rattle.calls.specs.Judging.{attribute-good, all-good, steps-good, unless, call-verdict, accepted}
 use Rattle.calls.specs.declared.Verdict.{Verdict}
 use Rattle.calls.specs.declared.Verdict.the-variants.{Accepted, Refused}
-
--- the bounds on a picture's sides
-pub record Bounded (width height : ℕ) : Type 0 where
-  pub wide : 1 ≤ width
-  pub not-wider : width ≤ 4096
-  pub high : 1 ≤ height
-  pub not-higher : height ≤ 4096
-  pub small : width * height ≤ 1048576
-
-pub bounded : (width height : ℕ) → sides-fit width height ≡ true → Bounded width height
-bounded w h fits =
-    let both : (leb 1 w && leb w 4096 && (leb 1 h && leb h 4096)) ≡ true =
-    and-left (leb 1 w && leb w 4096 && (leb 1 h && leb h 4096)) (leb (w * h) 1048576) fits in
-    let width-fits : (leb 1 w && leb w 4096) ≡ true =
-    and-left (leb 1 w && leb w 4096) (leb 1 h && leb h 4096) both in
-    let height-fits : (leb 1 h && leb h 4096) ≡ true =
-    and-right (leb 1 w && leb w 4096) (leb 1 h && leb h 4096) both in
-    record {
-      wide = leb-true 1 w (and-left (leb 1 w) (leb w 4096) width-fits);
-      not-wider = leb-true w 4096 (and-right (leb 1 w) (leb w 4096) width-fits);
-      high = leb-true 1 h (and-left (leb 1 h) (leb h 4096) height-fits);
-      not-higher = leb-true h 4096 (and-right (leb 1 h) (leb h 4096) height-fits);
-      small =
-          leb-true
-          (w * h)
-          1048576
-          (and-right (leb 1 w && leb w 4096 && (leb 1 h && leb h 4096)) (leb (w * h) 1048576) fits);
-    }
 
 -- a step list
 pub record Step-list (steps : List ℕ) : Type 0 where

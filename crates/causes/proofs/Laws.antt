@@ -1,4 +1,4 @@
--- What sides that fit give: each bound by itself, and at least one pixel.
+-- What sides that fit give: each bound by itself, and at least one pixel. Assumes nothing.
 use Prim.Native.Nat.{ℕ, _*_, _≤_}
 use mathlib.Core.Path.{_≡_, refl}
 use mathlib.Core.Bool.{Bool, true, false, _&&_, false≢true}
@@ -11,25 +11,28 @@ pub both-true : (a b : Bool) → a && b ≡ true → (a ≡ true) × (b ≡ true
 both-true true b e = (refl, e)
 both-true false b e = absurd (false≢true e)
 
-pub record Fitting (width height : ℕ) : Type 0 where
-  pub some-width : 1 ≤ width
-  pub width-within : width ≤ 4096
-  pub some-height : 1 ≤ height
-  pub height-within : height ≤ 4096
-  pub some-pixel : 1 ≤ width * height
-  pub pixels-within : width * height ≤ 1048576
+-- the bounds on a picture's sides
+pub record Bounded (width height : ℕ) : Type 0 where
+  pub wide : 1 ≤ width
+  pub not-wider : width ≤ 4096
+  pub high : 1 ≤ height
+  pub not-higher : height ≤ 4096
+  pub small : width * height ≤ 1048576
 
-pub fitting : (width height : ℕ) → sides-fit width height ≡ true → Fitting width height
-fitting width height e =
+pub bounded : (width height : ℕ) → sides-fit width height ≡ true → Bounded width height
+bounded width height e =
     let sides = both-true (leb 1 width && leb width 4096 && (leb 1 height && leb height 4096)) (leb (width * height) 1048576) e in
     let each = both-true (leb 1 width && leb width 4096) (leb 1 height && leb height 4096) (sides .0) in
     let w = both-true (leb 1 width) (leb width 4096) (each .0) in
     let h = both-true (leb 1 height) (leb height 4096) (each .1) in
     record {
-      some-width = leb-true 1 width (w .0);
-      width-within = leb-true width 4096 (w .1);
-      some-height = leb-true 1 height (h .0);
-      height-within = leb-true height 4096 (h .1);
-      some-pixel = one-le-mul (leb-true 1 width (w .0)) (leb-true 1 height (h .0));
-      pixels-within = leb-true (width * height) 1048576 (sides .1);
+      wide = leb-true 1 width (w .0);
+      not-wider = leb-true width 4096 (w .1);
+      high = leb-true 1 height (h .0);
+      not-higher = leb-true height 4096 (h .1);
+      small = leb-true (width * height) 1048576 (sides .1);
     }
+
+-- at least one pixel
+pub some-pixel : {width height : ℕ} → Bounded width height → 1 ≤ width * height
+some-pixel b = one-le-mul (b .wide) (b .high)

@@ -12,7 +12,7 @@ use borrow.Author.Tests.{le-leb, lt-leb, leb-true, eq-eqb, ne-eqb, eqb-true}
 use Rattle.causes.specs.declared.Cause.{Cause}
 use Rattle.causes.specs.declared.Cause.the-variants.{Sides, PictureLength, Buffer, Sign, Header as BadHeader, Maximum, RasterLength, Sample}
 use Rattle.causes.specs.Sides.{sides-fit}
-use Rattle.causes.proofs.Laws.{both-true, Fitting, fitting}
+use Rattle.causes.proofs.Laws.{both-true, bounded, some-pixel}
 use Rattle.pgm.specs.Samples.{largest, all-at-most}
 use Rattle.pgm.specs.Header.{starts-with-sign, header-at}
 use Rattle.pgm.specs.Read.{must, maximum-fits, judged, read-answer, raster-of}
@@ -46,7 +46,7 @@ pub none-follow : (total start n : ℕ) → total < start → 1 ≤ n → false 
 none-follow total start n h one = sym (ne-eqb (total - start) n (omega arith))
 
 pub some-pixels : (width height n : ℕ) → sides-fit width height ≡ true → n ≡ width * height → 1 ≤ n
-some-pixels width height n fit e = omega (arith, fitting width height fit .some-pixel)
+some-pixels width height n fit e = omega (arith, some-pixel (bounded width height fit))
 
 pub starts-within : (total start n : ℕ) → 1 ≤ n → eqb (total - start) n ≡ true → start ≤ total
 starts-within total start n one e = omega (arith, eqb-true (total - start) n e)
@@ -85,7 +85,7 @@ read-unsigned file e = simp e
 
 pub fields-fit : (width height maximum : ℕ) → sides-fit width height ≡ true → maximum-fits maximum ≡ true → Fields width height maximum
 fields-fit width height maximum sides most =
-    let f = fitting width height sides in
+    let f = bounded width height sides in
     let m = leb-true maximum 255 (both-true (leb 1 maximum) (leb maximum 255) most .1) in
     record { width-fits = omega arith; height-fits = omega arith; maximum-fits = omega arith }
 
@@ -182,7 +182,7 @@ module _ (file : List ℕ) (width height maximum start n : ℕ) (e : read-answer
   pub raster-within : start + n ≤ length file
   raster-within =
       let a = accepted file width height maximum start e in
-      omega (arith, a .length-right, fitting width height (a .sides-right) .some-pixel)
+      omega (arith, a .length-right, some-pixel (bounded width height (a .sides-right)))
 
   pub raster-accepted : take (start + n - start) (drop start file) ≡ raster-of file
   raster-accepted = rw (e, add-sub-cancel-left start n, pixels)

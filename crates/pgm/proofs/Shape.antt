@@ -9,7 +9,7 @@ use lib.Dec.{leb, eqb}
 use lib.ListN.{length, getD, drop, length-drop}
 use lib.Seq.{take-all}
 use borrow.Author.Tests.{le-leb, leb-true, eq-eqb, eqb-true}
-use Rattle.causes.proofs.Laws.{both-true, fitting}
+use Rattle.causes.proofs.Laws.{both-true, bounded}
 use Rattle.pgm.specs.Header.{sign, starts-with-sign, white-at, part-at, last-white-at, maximum-at, height-at, header-at}
 use Rattle.pgm.specs.Read.{judged, read-answer, raster-of}
 use Rattle.pgm.specs.Page.{Page}
@@ -84,7 +84,7 @@ module _ (file : List ℕ) (width height maximum start : ℕ) where
   pub accepted-page : read-answer file ≡ Picture width height maximum start → Page file width height maximum start (raster-of file)
   accepted-page e =
       let a = accepted file width height maximum start e in
-      let some = fitting width height (a .sides-right) .some-pixel in
+      let some = some-pixel (bounded width height (a .sides-right)) in
       let h = header-read width height maximum start file 2 (a .header) in
       let w = part-stands file 2 width (h .height-from) (h .width-read) in
       let v = part-stands file (h .height-from) height (h .maximum-from) (h .height-read) in

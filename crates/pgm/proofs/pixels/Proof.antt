@@ -1,5 +1,5 @@
 -- `pgm::pixels` meets its contract: sides that fit have at most 1,048,576 pixels. Assumes nothing.
-use Rattle.causes.proofs.Laws.{fitting}
+use Rattle.causes.proofs.Laws.{bounded}
 use borrow.Author.Needs.{needs}
 use native.Mathlib.Omega.{arith}
 use Rattle.pgm.proofs.pixels.Statement.{statement}
@@ -8,10 +8,10 @@ use Rattle.pgm.proofs.pixels.Reads as reads
 use Rattle.pgm.proofs.pixels.Lts as lts
 
 mul-result : tie.Need-mul-result
-mul-result c = omega (arith, fitting (c .args .width) (c .args .height) (c .pre))
+mul-result c = omega (arith, bounded (c .args .width) (c .args .height) (c .pre))
 
 cast-result : tie.Need-cast-result
-cast-result c = omega (arith, fitting (c .args .width) (c .args .height) (c .pre))
+cast-result c = omega (arith, bounded (c .args .width) (c .args .height) (c .pre))
 
 returns : tie.Need-returns
 returns c = search needs

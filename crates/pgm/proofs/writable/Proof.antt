@@ -1,7 +1,7 @@
 -- `pgm::writable` meets its contract: the first test that fails decides. Assumes nothing.
 use Prim.Native.Nat.{_≤_}
 use mathlib.Core.Path.{_∙_, sym}
-use Rattle.causes.proofs.Laws.{fitting}
+use Rattle.causes.proofs.Laws.{bounded}
 use borrow.Author.Tests.{not-true, not-false}
 use Rattle.pgm.proofs.Decimals.{length-decimal}
 use Rattle.pgm.proofs.Judging.{unwritable-sides, unwritable-length, unwritable-maximum, unwritable-sample, unwritable-room, writable-bytes, samples-above, samples-within, fields-fit}
@@ -86,7 +86,7 @@ add-needed-2 c =
       arith,
       short c,
       c .before .before .before .before .before .before .before .if2 .left ∙ c .before .before .before .before .before .before .before .before .pixels .ensures,
-      fitting (a .width) (a .height) (sym (c .before .before .before .before .before .before .before .before .before .before .fit .ensures) ∙ not-false _ (c .before .before .before .before .before .before .before .before .before .if1 .left)),
+      bounded (a .width) (a .height) (sym (c .before .before .before .before .before .before .before .before .before .before .fit .ensures) ∙ not-false _ (c .before .before .before .before .before .before .before .before .before .if1 .left)),
     )
 
 returns-5 : tie.Need-returns-5
