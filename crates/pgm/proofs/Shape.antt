@@ -9,7 +9,7 @@ use lib.Dec.{leb, eqb}
 use lib.ListN.{length, getD, drop, length-drop}
 use lib.Seq.{take-all}
 use borrow.Author.Tests.{le-leb, leb-true, eq-eqb, eqb-true}
-use Rattle.causes.proofs.Laws.{both-true, bounded}
+use Rattle.causes.proofs.Laws.{both-true, bounded, some-pixel}
 use Rattle.pgm.specs.Header.{sign, starts-with-sign, white-at, part-at, last-white-at, maximum-at, height-at, header-at}
 use Rattle.pgm.specs.Read.{judged, read-answer, raster-of}
 use Rattle.pgm.specs.Page.{Page}
