@@ -1,0 +1,12 @@
+pub mod Counts
+pub mod Meeting
+pub mod Finishing
+pub mod Closing
+pub mod Beginning
+pub mod Ending
+pub mod Tables
+pub mod Parts
+pub mod Visits
+pub mod Sides
+pub mod Steps
+pub mod Starts

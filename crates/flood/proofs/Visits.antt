@@ -1,0 +1,159 @@
+-- A visit of a neighbour on the lists: nothing is stored where it is met, and where it is not it is put into its queue.
+use Prim.Native.Nat.{ℕ, suc, _≤_, _<_}
+use mathlib.Core.Bool.{true, _||_}
+use mathlib.Core.List.{List}
+use mathlib.Core.Logic.{_⊎_}
+use mathlib.Core.Path.{_≡_, refl, _∙_}
+use native.Mathlib.Omega.{arith}
+use lib.Dec.{eqb}
+use lib.ListN.{getD, length}
+use borrow.Author.Tests.{eqb-true}
+use Rattle.sets.specs.Sets.{Positions}
+use Rattle.sets.proofs.Tests.{or-cases}
+use Rattle.grid.specs.Neighbours.{edge-neighbours}
+use Rattle.flood.specs.Flooding.{State, state-of}
+use Rattle.flood.specs.Levels.{grey, total}
+use Rattle.flood.specs.Calls.{Fitting, Placing, root-or, Ready, Visiting, Visited}
+use Rattle.flood.proofs.Counts.{by-cases}
+use Rattle.flood.proofs.Meeting.{met-sound, met-at, met-ord, keep-met, now-met, tail-lt, reaches}
+use Rattle.flood.proofs.Tables.{total-raised}
+
+module _ {w : ℕ} {picture ws heads tails roots : List ℕ} where
+  -- nothing is stored
+  pub stays :
+      {l : ℕ} {side : Positions} → Ready w picture ws heads tails roots l
+      → ((x : ℕ) → x < length picture → side x ≡ true → getD ws x 0 < length picture)
+      → Visited w picture ws heads tails roots ws tails roots l l side
+  stays R met =
+      record {
+        ready = R;
+        same-head = refl;
+        kept = λ x hx h. h;
+        more = omega arith;
+        raised = λ ne. absurd (ne refl);
+        met = λ e. met;
+      }
+
+  -- another side within the first
+  pub on-side :
+      {ws' tails' roots' : List ℕ} {l r : ℕ} {side side' : Positions}
+      → Visited w picture ws heads tails roots ws' tails' roots' l r side
+      → ((x : ℕ) → x < length picture → side' x ≡ true → side x ≡ true)
+      → Visited w picture ws heads tails roots ws' tails' roots' l r side'
+  on-side U sub =
+      record {
+        ready = U .ready;
+        same-head = U .same-head;
+        kept = U .kept;
+        more = U .more;
+        raised = U .raised;
+        met = λ e x hx h. U .met e x hx (sub x hx h);
+      }
+
+  -- the flood moves up
+  pub leaves :
+      {ws' tails' roots' : List ℕ} {l r : ℕ} {side side' : Positions}
+      → Visited w picture ws heads tails roots ws' tails' roots' l r side → (r ≡ l → ⊥)
+      → Visited w picture ws heads tails roots ws' tails' roots' l r side'
+  leaves U ne =
+      record {
+        ready = U .ready;
+        same-head = U .same-head;
+        kept = U .kept;
+        more = U .more;
+        raised = U .raised;
+        met = λ e. absurd (ne e);
+      }
+
+  -- one visit after another, where the first stays at its level
+  pub visits :
+      {ws₁ tails₁ roots₁ ws₂ tails₂ roots₂ : List ℕ} {l r₁ r₂ : ℕ} {side₁ side₂ : Positions}
+      → Visited w picture ws heads tails roots ws₁ tails₁ roots₁ l r₁ side₁ → r₁ ≡ l
+      → Visited w picture ws₁ heads tails₁ roots₁ ws₂ tails₂ roots₂ l r₂ side₂
+      → Visited w picture ws heads tails roots ws₂ tails₂ roots₂ l r₂ (λ x. side₁ x || side₂ x)
+  visits {side₁ = side₁} {side₂ = side₂} A e₁ B =
+      record {
+        ready = B .ready;
+        same-head = B .same-head ∙ A .same-head;
+        kept = λ x hx h. B .kept x hx (A .kept x hx h);
+        more = omega (arith, A .more, B .more);
+        raised = λ ne. omega (arith, A .more, B .raised ne);
+        met = λ e x hx h.
+            by-cases (or-cases (side₁ x) (side₂ x) h) (λ a. B .kept x hx (A .met e₁ x hx a)) (λ b. B .met e x hx b);
+      }
+
+  -- the level is the one that the visit began at
+  pub settle :
+      {ws' tails' roots' : List ℕ} {l r : ℕ} {side : Positions} → Visited w picture ws heads tails roots ws' tails' roots' l r side
+      → r ≡ l → Visited w picture ws heads tails roots ws' tails' roots' l l side
+  settle U e = rw e at U
+
+  module _ {l q : ℕ} (U : Visiting w picture ws heads tails roots l q) where
+    pub already : (getD ws q 0 ≡ length picture → ⊥) → Visited w picture ws heads tails roots ws tails roots l l (λ x. eqb x q)
+    already ne =
+        stays (U .ready)
+        (λ x hx h.
+        let e = eqb-true x q h in
+        let in-range = U .ready .sound .range q (U .within) in
+        rw e (omega arith))
+
+    pub fits : getD ws q 0 ≡ length picture → Fitting (length picture) q (grey picture q) ws tails roots
+    fits new =
+        let R = U .ready in
+        record {
+          sized = R .sized;
+          within = U .within;
+          level = R .bytes q;
+          free =
+              tail-lt (R .sound) (R .bytes q) (U .within) new;
+          root = R .sound .roots (grey picture q) (R .bytes q);
+          wide-tails = R .wide-tails;
+          wide-roots = R .wide-roots;
+        }
+
+    pub queued :
+        {ws' tails' roots' : List ℕ} {r : ℕ} → getD ws q 0 ≡ length picture → length ws' ≡ length ws
+        → Placing (length picture) q (grey picture q) ws tails roots ws' tails' roots'
+        → ((l < grey picture q) × (r ≡ grey picture q)) ⊎ ((grey picture q ≤ l) × (r ≡ l))
+        → Visited w picture ws heads tails roots ws' tails' roots' l r (λ x. eqb x q)
+    queued {ws' = ws'} {tails' = tails'} {roots' = roots'} {r = r} new same-length P which =
+        let n = length picture in
+        let g : ℕ → ℕ = grey picture in
+        let s : State = state-of n ws heads tails roots in
+        let s' : State = state-of n ws' heads tails' roots' in
+        let R = U .ready in
+        let A = R .at in
+        let adj = edge-neighbours w in
+        let step = P .step heads in
+        let root = root-or (getD roots (g q) 0) n q in
+        let keep : (x : ℕ) → x < n → getD ws x 0 < n → getD ws' x 0 < n =
+        keep-met (R .sound) (R .bytes q) (U .within) refl new step
+        in
+        let raise : total 256 (λ (k : ℕ). getD tails' k 0) ≡ suc (total 256 (λ (k : ℕ). getD tails k 0)) =
+        total-raised 256 _ _ (g q) (R .bytes q) (step .tail .here) (step .tail .there)
+        in
+        record {
+          ready =
+              record {
+                bytes = R .bytes;
+                columns = R .columns;
+                whole = R .whole;
+                sized = record { words = same-length ∙ R .sized .words; small = R .sized .small };
+                wide-heads = R .wide-heads;
+                wide-tails = P .wide-tails;
+                wide-roots = P .wide-roots;
+                sound =
+                    met-sound (R .sound) (R .bytes q) (U .within) refl new step (λ x h. R .bytes x)
+                    (reaches (R .sound) A refl (U .within) (U .next));
+                at = met-at (R .sound) (R .bytes q) (U .within) refl new step l r A which;
+              };
+          same-head =
+              met-ord (R .sound) (R .bytes q) (U .within) refl new step l (A .level)
+              (A .busy l (A .level) (A .open-here));
+          kept = keep;
+          more = omega arith;
+          raised = λ ne. omega arith;
+          met = λ same-level x hx h.
+              let e = eqb-true x q h in
+              rw e (now-met (R .sound) (R .bytes q) (U .within) refl new step);
+        }

@@ -1,0 +1,37 @@
+-- `visit_up` meets its contract. A pixel of the first row has no neighbour above.
+use Prim.Native.Nat.{_-_}
+use native.Mathlib.Omega.{arith}
+use borrow.Author.Needs.{needs}
+use borrow.Author.Tests.{eq-eqb}
+use Rattle.flood.proofs.Sides.{above-is, is-next-in-column, to-above, standing-in, visiting}
+use Rattle.flood.proofs.Visits.{stays, on-side}
+use Rattle.flood.proofs.queues.visit_up.Statement.{statement}
+use Rattle.flood.proofs.queues.visit_up.Tie as tie
+
+returns : tie.Need-returns
+returns c =
+    let at = c .before .before .before in
+    let p = at .args .p in
+    let w = at .args .width in
+    stays (at .pre .ready) (λ x hx h. absurd (omega (arith, above-is w p x h)))
+
+visit-requires : tie.Need-visit-requires
+visit-requires c κs =
+    let at = c .before .before .before .before .before .before in
+    let p = at .args .p in
+    let w = at .args .width in
+    let S = at .pre in
+    visiting S _ (omega (arith, standing-in S)) (to-above w p (p - w) (is-next-in-column w (p - w) p (omega (arith, c .before .before .before .if1 .left))))
+
+same-length : tie.Need-same-length
+same-length c = search needs
+
+returns-2 : tie.Need-returns-2
+returns-2 c =
+    let at = c .before .before .before .before .before .before .before .before .before in
+    let p = at .args .p in
+    let w = at .args .width in
+    on-side (c .before .before .visit .ensures) (λ x hx h. eq-eqb x _ (omega (arith, above-is w p x h)))
+
+pub visit-up-spec : {M : Type 1} → statement M
+visit-up-spec = tie.close (tie.spec returns visit-requires same-length returns-2)

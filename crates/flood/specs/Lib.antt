@@ -1,0 +1,3 @@
+pub mod Flooding
+pub mod Levels
+pub mod Calls

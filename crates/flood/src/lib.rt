@@ -1,0 +1,31 @@
+// Flooding of the max-tree with level queues. Part 1 of the workspace receives the parents, part 3 the pixels in the order of their
+// greys. The other parts are neither read nor written.
+mod levels;
+mod queues;
+
+ghost use Rattle.flood.specs.Calls.{Floodable, FloodedBy};
+
+// Floods a picture of whole rows: on return each parent word is the root of the pixel's node, or of its parent's for a root, and the
+// links to the parents join the same pixels at every level as the picture's edges.
+pub fn flood(picture: &[u8], width: usize, ws: &mut [u32])
+    requires { ⌜ Floodable width (now picture) (now ws) ⌝ }
+    ensures { λ _. ⌜ FloodedBy width (now (picture .entry)) (now (ws .exit)) ⌝ }
+{
+    let n = picture.len();
+    let counts = levels::count_levels(picture);
+    let mut heads = levels::run_starts(counts);
+    let mut tails = heads;
+    let mut roots: [usize; 256] = [n; 256];
+    levels::reset(&mut ws[0..n], n as u32);
+    let first = picture[0] as usize;
+    queues::push(n, 0, first, ws, &mut tails, &mut roots);
+    queues::run(
+        picture,
+        width,
+        first,
+        ws,
+        &mut heads,
+        &mut tails,
+        &mut roots,
+    );
+}

@@ -1,0 +1,82 @@
+-- `max_tree::passes::descendants` meets its contract. Invariant: the places from i on have been taken. Assumes nothing.
+use Prim.Native.Nat.{ℕ, _-_, _+_, _*_}
+use mathlib.Core.List.{List}
+use mathlib.Core.Path.{_≡_, subst, sym}
+use lib.ListN.{length, getD}
+use Rattle.flood.specs.Flooding.{order-of}
+use Rattle.max_tree.proofs.Pouring.{Pouring, pouring-none, pour-asked, pouring-more, pouring-end}
+use borrow.Author.Needs.{needs}
+use native.Mathlib.Omega.{arith}
+use Rattle.max_tree.proofs.passes.descendants.Statement.{statement}
+use Rattle.max_tree.proofs.passes.descendants.Tie as tie
+
+abbrev Inv-loop : tie.InvT-loop
+Inv-loop picture attribute ws₀ n i₀ ws i = Pouring attribute picture ws₀ ws i
+
+abbrev μ-loop : tie.MeasureT-loop
+μ-loop picture attribute ws₀ n i₀ ws i = i
+
+loop-holds : tie.Need-loop-holds Inv-loop μ-loop
+loop-holds c = pouring-none _ _ _ (c .before .before .pre)
+
+sub-i : tie.Need-sub-i Inv-loop μ-loop
+sub-i c = search needs
+
+mul-q : tie.Need-mul-q Inv-loop μ-loop
+mul-q c = omega (arith, c .before .loop .inv .top, c .before .before .before .before .pre .sized .small)
+
+add-q : tie.Need-add-q Inv-loop μ-loop
+add-q c = omega (arith, c .before .loop .inv .top, c .before .before .before .before .pre .sized .small)
+
+mul-q-2 : tie.Need-mul-q-2 Inv-loop μ-loop
+mul-q-2 c = omega (arith, c .before .loop .inv .top, c .before .before .before .before .pre .sized .small)
+
+slice-read-q : tie.Need-slice-read-q Inv-loop μ-loop
+slice-read-q c = omega (arith, c .before .before .loop .inv .top, c .before .before .loop .inv .words, c .before .before .before .before .before .pre .sized .words)
+
+cast-q : tie.Need-cast-q Inv-loop μ-loop
+cast-q c = omega (arith, c .slice-known2 .given (2 * length (c .before .before .before .before .before .args .picture .now) + (c .before .before .loop .i - 1)))
+
+-- the pixel that is taken
+pixel-is : (c : tie.After-slice-known2 Inv-loop μ-loop) → getD (c .before .before .loop .ws) (2 * length (c .before .before .before .before .before .args .picture .now) + (c .before .before .loop .i - 1)) 0 ≡ order-of (length (c .before .before .before .before .before .args .picture .now)) (c .before .before .before .before .before .args .ws .now) (c .before .before .loop .i - 1)
+pixel-is c = c .before .before .loop .inv .kept _ (omega (arith, c .before .before .loop .inv .top))
+
+pour-requires : tie.Need-pour-requires Inv-loop μ-loop
+pour-requires c κs = pour-asked _ _ _ (c .before .before .before .before .before .before .pre) _ _ _ (omega arith) (c .before .before .before .loop .inv) (pixel-is (c .before))
+
+loop-less : tie.Need-loop-less Inv-loop μ-loop
+loop-less c = search needs
+
+loop-again : tie.Need-loop-again Inv-loop μ-loop
+loop-again c =
+    let start = c .before .before .before .before .before .before .before .before .before in
+    let at = c .before .before .before .before .before .before .loop in
+    subst
+    (λ (l : List ℕ). Pouring (start .args .attribute) (start .args .picture .now) (start .args .ws .now) l (at .i - 1))
+    (sym (c .before .before .pour .ensures))
+    (pouring-more _ _ _ (start .pre) _ _ _ (omega arith) (at .inv) (pixel-is (c .before .before .before .before)))
+
+same-length : tie.Need-same-length Inv-loop μ-loop
+same-length c = omega (arith, c .before .loop .inv .words)
+
+returns : tie.Need-returns Inv-loop μ-loop
+returns c = pouring-end _ _ _ (c .before .before .before .before .pre) _ _ (c .loop-test .left) (c .before .loop .inv)
+
+pub descendants-spec : {M : Type 1} → statement M
+descendants-spec =
+    tie.close
+    (tie.spec
+    Inv-loop
+    μ-loop
+    loop-holds
+    sub-i
+    mul-q
+    add-q
+    mul-q-2
+    slice-read-q
+    cast-q
+    pour-requires
+    loop-less
+    loop-again
+    same-length
+    returns)

@@ -1,0 +1,61 @@
+-- `max_tree::passes::write_record` meets its contract. Invariant: the pixels below q are written. Assumes nothing.
+use Prim.Native.Nat.{_-_}
+use lib.ListN.{length}
+use Rattle.max_tree.proofs.Writing.{Writing, writing-none, write-asked, writing-more, number-room, writing-end}
+use borrow.Author.Needs.{needs}
+use native.Mathlib.Omega.{arith}
+use Rattle.max_tree.proofs.passes.write_record.Statement.{statement}
+use Rattle.max_tree.proofs.passes.write_record.Tie as tie
+
+abbrev Inv-loop : tie.InvT-loop
+Inv-loop picture attribute ws₀ n nodes₀ q₀ ws nodes q = Writing attribute picture ws₀ ws nodes q
+
+abbrev μ-loop : tie.MeasureT-loop
+μ-loop picture attribute ws₀ n nodes₀ q₀ ws nodes q = length picture - q
+
+loop-holds : tie.Need-loop-holds Inv-loop μ-loop
+loop-holds c = writing-none _ _ _ (c .before .before .pre)
+
+write-pixel-requires : tie.Need-write-pixel-requires Inv-loop μ-loop
+write-pixel-requires c κs = write-asked _ _ _ (c .before .before .before .before .before .pre) _ _ _ (c .before .loop-test .taken) (c .before .before .loop .inv)
+
+add-nodes : tie.Need-add-nodes Inv-loop μ-loop
+add-nodes c =
+    let start = c .before .before .before .before .before .before .before .before in
+    omega (
+      arith,
+      number-room _ _ _ (start .pre) _ _ _ (c .before .before .before .before .loop-test .taken) (c .before .before .before .before .before .loop .inv) _ (c .before .before .write-pixel .ensures .0),
+      start .pre .sized .small,
+    )
+
+add-q : tie.Need-add-q Inv-loop μ-loop
+add-q c = search needs
+
+loop-less : tie.Need-loop-less Inv-loop μ-loop
+loop-less c = search needs
+
+loop-again : tie.Need-loop-again Inv-loop μ-loop
+loop-again c =
+    let called = c .before .before .write-pixel in
+    writing-more _ _ _ (c .before .before .before .before .before .before .before .before .pre) _ _ _ (c .before .before .before .before .loop-test .taken) (c .before .before .before .before .before .loop .inv) _ _ (called .ensures .1) (called .ensures .0)
+
+same-length : tie.Need-same-length Inv-loop μ-loop
+same-length c = omega (arith, c .before .loop .inv .words)
+
+returns : tie.Need-returns Inv-loop μ-loop
+returns c = writing-end _ _ _ (c .before .before .before .before .pre) _ _ _ (c .loop-test .left) (c .before .loop .inv)
+
+pub write-record-spec : {M : Type 1} → statement M
+write-record-spec =
+    tie.close
+    (tie.spec
+    Inv-loop
+    μ-loop
+    loop-holds
+    write-pixel-requires
+    add-nodes
+    add-q
+    loop-less
+    loop-again
+    same-length
+    returns)

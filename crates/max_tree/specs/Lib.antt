@@ -1,0 +1,4 @@
+pub mod Accumulators
+pub mod Branches
+pub mod Passes
+pub mod Building

@@ -1,0 +1,92 @@
+// The max-tree of a picture: the record that is kept of it in a workspace of 6n words, part 1 the parents, part 2 the attributes, parts
+// 3 to 6 scratch. The flood leaves the nodes' roots and the order of the pixels, and the passes make the record of them.
+ghost use mathlib.Core.List.{_++_};
+ghost use mathlib.Core.Path.{_≡_};
+ghost use Prim.Native.Nat.{_*_};
+ghost use lib.ListN.{length, take, replicate};
+ghost use Rattle.calls.specs.Judging.{build-verdict};
+ghost use Rattle.calls.specs.Calls.{built, call-workspace};
+ghost use Rattle.flood.specs.Calls.{Sized};
+ghost use Rattle.max_tree.specs.Building.{Buildable, Ordered, Whole};
+
+mod passes;
+mod words;
+
+// The record in parts 1 and 2, with the pixels in the order of their greys in part 3. Answers the number of nodes.
+pub fn build_ordered(
+    picture: &[u8],
+    width: u32,
+    height: u32,
+    attribute: u32,
+    workspace: &mut [u32],
+) -> u32
+    requires { ⌜ Buildable width height (now picture) (now workspace) ⌝ }
+    ensures { λ r. ⌜ Ordered (width * height) width attribute (now (picture .entry)) (now (workspace .exit)) r ⌝ }
+{
+    let w = width as usize;
+    let n = w * (height as usize);
+    let blank = words::none(attribute);
+    flood::flood(picture, w, workspace);
+    passes::fill(&mut workspace[4 * n..5 * n], blank);
+    passes::own_pixels(picture, w, attribute, workspace);
+    passes::descendants(picture, attribute, workspace);
+    passes::write_record(picture, attribute, workspace) as u32
+}
+
+// Zeroes parts 3 to 6 of a workspace with n words to a part.
+pub fn clear_scratch(n: usize, workspace: &mut [u32])
+    requires { ⌜ Sized n (now workspace) ⌝ }
+    ensures { λ _. ⌜ now (workspace .exit) ≡ take (2 * n) (now (workspace .entry)) ++ replicate (4 * n) 0 ⌝ }
+{
+    passes::fill(&mut workspace[2 * n..3 * n], 0);
+    passes::fill(&mut workspace[3 * n..4 * n], 0);
+    passes::fill(&mut workspace[4 * n..5 * n], 0);
+    passes::fill(&mut workspace[5 * n..6 * n], 0);
+}
+
+// The whole record, with zero scratch. Answers the number of nodes.
+pub fn build_record(
+    picture: &[u8],
+    width: u32,
+    height: u32,
+    attribute: u32,
+    workspace: &mut [u32],
+) -> u32
+    requires { ⌜ Buildable width height (now picture) (now workspace) ⌝ }
+    ensures { λ r. ⌜ Whole width height attribute (now (picture .entry)) (now (workspace .exit)) r ⌝ }
+{
+    let nodes = build_ordered(picture, width, height, attribute, workspace);
+    clear_scratch((width as usize) * (height as usize), workspace);
+    nodes
+}
+
+// Builds the tree of a picture: the workspace holds its record, and the answer is the number of nodes.
+pub fn build(
+    picture: &[u8],
+    width: u32,
+    height: u32,
+    attribute: u32,
+    workspace: &mut [u32],
+) -> calls::Built
+    ensures { λ r. ⌜ r ≡ built width height attribute (now (picture .entry)) (now (workspace .entry)) ⌝ }
+    ensures { λ _. ⌜ now (workspace .exit) ≡ call-workspace (build-verdict width height attribute (length (now (picture .entry))) (length (now (workspace .entry)))) width height attribute (now (picture .entry)) (now (workspace .entry)) ⌝ }
+{
+    let verdict = calls::judge(
+        width,
+        height,
+        attribute,
+        picture.len(),
+        true,
+        workspace.len(),
+        true,
+    );
+    match verdict {
+        calls::Verdict::Refused(cause) => {
+            return calls::Built::Refused(cause);
+        }
+        calls::Verdict::Accepted => {
+            let nodes = build_record(picture, width, height, attribute, workspace);
+            return calls::Built::Nodes(nodes);
+        }
+    }
+}

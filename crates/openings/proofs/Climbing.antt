@@ -1,0 +1,64 @@
+-- The steps of a climb and of the pass over the positions. Assumes nothing.
+use Prim.Native.Nat.{ℕ, _+_, _<_}
+use mathlib.Core.List.{List}
+use mathlib.Core.Logic.{⊎-elim}
+use mathlib.Core.Path.{_≡_}
+use native.Mathlib.Omega.{arith}
+use lib.ListN.{length, set, length-set}
+use lib.Seq.{getD-set-same, getD-set-other}
+use Rattle.sets.proofs.Tests.{last-or-below}
+use Rattle.calls.specs.Calls.{grey}
+use Rattle.openings.specs.Climbing.{parent, attribute, Representative, Climbable, From, Kept, Opened-to, Pass}
+
+module _ (picture words : List ℕ) (n r : ℕ) (from : From picture words n r) (higher : parent words r ≡ r → ⊥) where
+  -- the parent of a node that is not the root
+  pub from-parent : From picture words n (parent words r)
+  from-parent =
+      record {
+        climbable = from .climbable;
+        below = from .climbable .within r (from .below);
+        representative = from .climbable .leads r (from .below);
+      }
+
+  -- "Levels fall strictly on the way up"
+  pub parent-falls : grey picture (parent words r) < grey picture r
+  parent-falls =
+      ⊎-elim (λ same. absurd (higher same)) (λ less. less) (from .climbable .falls r (from .below) (from .representative))
+
+module _ (picture words : List ℕ) (n t : ℕ) where
+  pub pass-start : (output : List ℕ) → Climbable picture words n → length output ≡ n → Pass picture words n t 0 output
+  pass-start output climbable entries =
+      record { climbable = climbable; entries = entries; reached = omega arith; opened = λ p below. absurd (omega arith) }
+
+  module _ (p : ℕ) (output : List ℕ) (pass : Pass picture words n t p output) (below : p < n) where
+    -- a pixel that is no representative has the new grey of its representative, which is written
+    pub pass-own : attribute words n p ≡ 0
+        → (parent words p < length output) × Opened-to picture words n t p (grey output (parent words p))
+    pass-own none =
+        let before : parent words p < p = pass .climbable .lowest p below none in (
+          omega (arith, pass .entries),
+          record {
+            own = λ e. pass .opened (parent words p) before .itself (pass .climbable .leads p below);
+            itself = λ representative. absurd (representative none);
+          },
+        )
+
+    -- a representative starts a climb
+    pub pass-from : Representative words n p → From picture words n p
+    pass-from representative = record { climbable = pass .climbable; below = below; representative = representative }
+
+    pub pass-itself : (v : ℕ) → Representative words n p → Kept picture words n t p v → Opened-to picture words n t p v
+    pass-itself v representative found = record { own = λ none. absurd (representative none); itself = λ e. found }
+
+    pub pass-more : (v : ℕ) → Opened-to picture words n t p v → Pass picture words n t (p + 1) (set output p v)
+    pass-more v found =
+        let within : p < length output = omega (arith, pass .entries) in
+        record {
+          climbable = pass .climbable;
+          entries = simp length-set (pass .entries);
+          reached = omega arith;
+          opened = λ q before. ⊎-elim
+              (λ (same : q ≡ p). rw (same, getD-set-same output p v 0) found)
+              (λ (less : q < p). rw (getD-set-other output p q v 0 (λ e. omega arith)) (pass .opened q less))
+              (last-or-below q p (omega arith));
+        }

@@ -1,0 +1,3 @@
+pub mod Climbing
+pub mod Record
+pub mod Opening

@@ -1,0 +1,96 @@
+// The opening call: a picture is opened from its tree record. The record may be of any choice of representatives: climbing asks no more
+// than that levels fall.
+ghost use Prim.Native.Nat.{_<_};
+ghost use mathlib.Core.Path.{_≡_};
+ghost use lib.ListN.{length};
+ghost use Rattle.calls.specs.Judging.{verdict-number};
+ghost use Rattle.calls.specs.Calls.{opening-judged, call-workspace, opening-output};
+ghost use Rattle.openings.specs.Answer.{opened-as, opened-number};
+ghost use Rattle.openings.specs.Climbing.{Climbable, From, Kept, Opened-to, Opened-before, Pass};
+
+// What an opening call answers.
+pub enum Opened {
+    Done,
+    Refused(causes::Cause),
+}
+
+// The grey of the nearest kept ancestor of the node of `r`, itself among them: recursion to the parent, whose level is below.
+fn climb(picture: &[u8], words: &[u32], n: usize, r: usize, threshold: u32) -> u8
+    requires { ⌜ From (now picture) (now words) n r ⌝ }
+    ensures { λ v. ⌜ Kept (now (picture .entry)) (now (words .entry)) n threshold r v ⌝ }
+{
+    if threshold <= words[n + r] {
+        return picture[r];
+    }
+    let parent = words[r] as usize;
+    if parent == r {
+        return picture[r];
+    }
+    climb(picture, words, n, parent, threshold)
+}
+
+// The new grey of `p`, where every position before it has its own: a representative climbs, any other pixel has its representative's.
+fn new_grey(picture: &[u8], words: &[u32], n: usize, p: usize, threshold: u32, output: &[u8]) -> u8
+    requires { ⌜ Pass (now picture) (now words) n threshold p (now output) ⌝ }
+    requires { ⌜ p < n ⌝ }
+    ensures { λ v. ⌜ Opened-to (now (picture .entry)) (now (words .entry)) n threshold p v ⌝ }
+{
+    if words[n + p] == 0 {
+        let representative = words[p] as usize;
+        return output[representative];
+    }
+    climb(picture, words, n, p, threshold)
+}
+
+// Writes every new grey, in order of position.
+fn open_record(picture: &[u8], words: &[u32], threshold: u32, output: &mut [u8])
+    requires { ⌜ Climbable (now picture) (now words) (length (now picture)) ⌝ }
+    requires { ⌜ length (now output) ≡ length (now picture) ⌝ }
+    ensures { λ r. ⌜ Opened-before (now (picture .entry)) (now (words .entry)) (length (now (picture .entry))) threshold (length (now (picture .entry))) (now (output .exit)) ⌝ }
+{
+    let n = picture.len();
+    let mut p = 0;
+    while p < n {
+        let v = new_grey(picture, words, n, p, threshold, output);
+        output[p] = v;
+        p += 1;
+    }
+}
+
+// Opens a picture at a threshold: the output is the opened picture, and the workspace the tree record of the picture given.
+pub fn open(
+    picture: &[u8],
+    width: u32,
+    height: u32,
+    attribute: u32,
+    threshold: u32,
+    workspace: &mut [u32],
+    output: &mut [u8],
+) -> Opened
+    ensures { λ r. ⌜ r ≡ opened-as (opening-judged width height attribute threshold (now (picture .entry)) (now (workspace .entry)) (now (output .entry))) ⌝ }
+    ensures { λ r. ⌜ opened-number r ≡ verdict-number (opening-judged width height attribute threshold (now (picture .entry)) (now (workspace .entry)) (now (output .entry))) ⌝ }
+    ensures { λ r. ⌜ now (workspace .exit) ≡ call-workspace (opening-judged width height attribute threshold (now (picture .entry)) (now (workspace .entry)) (now (output .entry))) width height attribute (now (picture .entry)) (now (workspace .entry)) ⌝ }
+    ensures { λ r. ⌜ now (output .exit) ≡ opening-output width height attribute threshold (now (picture .entry)) (now (workspace .entry)) (now (output .entry)) ⌝ }
+{
+    let thresholds = calls::threshold_good(threshold);
+    let outputs = calls::entry_each(width, height, output.len());
+    let verdict = calls::judge(
+        width,
+        height,
+        attribute,
+        picture.len(),
+        thresholds,
+        workspace.len(),
+        outputs,
+    );
+    match verdict {
+        calls::Verdict::Refused(cause) => {
+            return Opened::Refused(cause);
+        }
+        calls::Verdict::Accepted => {
+            max_tree::build_record(picture, width, height, attribute, workspace);
+            open_record(picture, workspace, threshold, output);
+            return Opened::Done;
+        }
+    }
+}
