@@ -23,7 +23,7 @@ module _ (w : ℕ) (wide : 0 < w) where
       (ℕ-discrete (suc (p % w)) w)
       (λ (e : suc (p % w) ≡ w). absurd (start (suc-mod p w ∙ ap (λ (k : ℕ). k % w) e ∙ mod-self w)))
       (λ (n : suc (p % w) ≡ w → ⊥).
-        suc-mod p w ∙ mod-eq-of-lt (omega (arith, mod-lt p wide)) ∙ sym (add-one (p % w)))
+      suc-mod p w ∙ mod-eq-of-lt (omega (arith, mod-lt p wide)) ∙ sym (add-one (p % w)))
 
   next-row-same : (p : ℕ) → (suc p % w ≡ 0 → ⊥) → p / w ≡ suc p / w
   next-row-same p start =
@@ -78,14 +78,15 @@ module _ (w : ℕ) (wide : 0 < w) where
 
   -- "Neighbours share an edge."
   pub neighbours-share-edge : (p q : ℕ) → edge-neighbours w p q ≡ true ↔ Share-edge w p q
-  neighbours-share-edge p q =
-      (λ (e : edge-neighbours w p q ≡ true).
+  neighbours-share-edge p q = (
+    λ (e : edge-neighbours w p q ≡ true).
         ⊎-elim
         (one-sided p q)
         (λ (f : next-in-row w q p || next-in-column w q p ≡ true). swapped q p (one-sided q p f))
         (or-cases (next-in-row w p q || next-in-column w p q) (next-in-row w q p || next-in-column w q p) e),
-      λ (s : Share-edge w p q).
+    λ (s : Share-edge w p q).
         ⊎-elim
         (or-left (next-in-row w p q || next-in-column w p q) (next-in-row w q p || next-in-column w q p))
         (or-right (next-in-row w p q || next-in-column w p q) (next-in-row w q p || next-in-column w q p))
-        (sided p q s))
+        (sided p q s),
+  )

@@ -9,6 +9,12 @@ use Rattle.pgm.specs.declared.Found.{Found}
 use Rattle.pgm.specs.declared.Found.the-variants.{Picture, Refused}
 use Rattle.pgm.specs.declared.Written.{Written}
 use Rattle.pgm.specs.declared.Written.the-variants.{Bytes, Refused as NotWritten}
+use Rattle.calls.specs.declared.Built.{Built}
+use Rattle.calls.specs.declared.Built.the-variants.{Nodes, Refused as NotBuilt}
+use Rattle.openings.specs.declared.Opened.{Opened}
+use Rattle.openings.specs.declared.Opened.the-variants.{Done as OpeningDone, Refused as NotOpened}
+use Rattle.residues.specs.declared.Mapped.{Mapped}
+use Rattle.residues.specs.declared.Mapped.the-variants.{Done as MapsDone, Refused as NotMapped}
 
 abbrev pub refused-code : Cause → ℕ
 refused-code cause = number-of cause * 2 ^ 32
@@ -25,3 +31,15 @@ head-with (Refused cause) head = head
 abbrev pub written-code : Written → ℕ
 written-code (Bytes total) = total
 written-code (NotWritten cause) = refused-code cause
+
+abbrev pub built-code : Built → ℕ
+built-code (Nodes total) = total
+built-code (NotBuilt cause) = refused-code cause
+
+abbrev pub opened-code : Opened → ℕ
+opened-code OpeningDone = 0
+opened-code (NotOpened cause) = refused-code cause
+
+abbrev pub mapped-code : Mapped → ℕ
+mapped-code MapsDone = 0
+mapped-code (NotMapped cause) = refused-code cause

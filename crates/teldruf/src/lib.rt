@@ -4,7 +4,11 @@ ghost use mathlib.Core.Path.{_≡_};
 ghost use lib.ListN.{length};
 ghost use Rattle.pgm.specs.Read.{read-answer};
 ghost use Rattle.pgm.specs.Write.{write-answer, buffer-after};
-ghost use Rattle.teldruf.specs.Codes.{refused-code, found-code, head-with, written-code};
+ghost use Rattle.calls.specs.Judging.{build-verdict};
+ghost use Rattle.calls.specs.Calls.{built, call-workspace, opening-judged, opening-output, map-judged, map-residues, map-indices};
+ghost use Rattle.openings.specs.Answer.{opened-as};
+ghost use Rattle.residues.specs.Answer.{mapped-as};
+ghost use Rattle.teldruf.specs.Codes.{refused-code, found-code, head-with, written-code, built-code, opened-code, mapped-code};
 use causes::Cause;
 
 fn refused(cause: Cause) -> u64
@@ -49,5 +53,84 @@ pub extern "C" fn teldruf_write_pgm(
     match pgm::write(picture, width, height, maximum, buffer) {
         pgm::Written::Bytes(total) => total as u64,
         pgm::Written::Refused(cause) => refused(cause),
+    }
+}
+
+// Builds the max-tree of a picture in the workspace, and answers the number of nodes.
+#[no_mangle]
+pub extern "C" fn teldruf_build(
+    picture: &[u8],
+    width: u32,
+    height: u32,
+    attribute: u32,
+    workspace: &mut [u32],
+) -> u64
+    ensures { λ r. ⌜ r ≡ built-code (built width height attribute (now (picture .entry)) (now (workspace .entry))) ⌝ }
+    ensures { λ _. ⌜ now (workspace .exit) ≡ call-workspace (build-verdict width height attribute (length (now (picture .entry))) (length (now (workspace .entry)))) width height attribute (now (picture .entry)) (now (workspace .entry)) ⌝ }
+{
+    match max_tree::build(picture, width, height, attribute, workspace) {
+        calls::Built::Nodes(total) => total as u64,
+        calls::Built::Refused(cause) => refused(cause),
+    }
+}
+
+// Opens a picture at a threshold into the output.
+#[no_mangle]
+pub extern "C" fn teldruf_open(
+    picture: &[u8],
+    width: u32,
+    height: u32,
+    attribute: u32,
+    threshold: u32,
+    workspace: &mut [u32],
+    output: &mut [u8],
+) -> u64
+    ensures { λ r. ⌜ r ≡ opened-code (opened-as (opening-judged width height attribute threshold (now (picture .entry)) (now (workspace .entry)) (now (output .entry)))) ⌝ }
+    ensures { λ _. ⌜ now (workspace .exit) ≡ call-workspace (opening-judged width height attribute threshold (now (picture .entry)) (now (workspace .entry)) (now (output .entry))) width height attribute (now (picture .entry)) (now (workspace .entry)) ⌝ }
+    ensures { λ _. ⌜ now (output .exit) ≡ opening-output width height attribute threshold (now (picture .entry)) (now (workspace .entry)) (now (output .entry)) ⌝ }
+{
+    match openings::open(
+        picture,
+        width,
+        height,
+        attribute,
+        threshold,
+        workspace,
+        output,
+    ) {
+        openings::Opened::Done => 0,
+        openings::Opened::Refused(cause) => refused(cause),
+    }
+}
+
+// Writes the residue map and the index map of a picture for a list of steps.
+#[no_mangle]
+pub extern "C" fn teldruf_map(
+    picture: &[u8],
+    width: u32,
+    height: u32,
+    attribute: u32,
+    steps: &[u32],
+    workspace: &mut [u32],
+    residue: &mut [u8],
+    index: &mut [u16],
+) -> u64
+    ensures { λ r. ⌜ r ≡ mapped-code (mapped-as (map-judged width height attribute (now (steps .entry)) (now (picture .entry)) (now (workspace .entry)) (now (residue .entry)) (now (index .entry)))) ⌝ }
+    ensures { λ _. ⌜ now (workspace .exit) ≡ call-workspace (map-judged width height attribute (now (steps .entry)) (now (picture .entry)) (now (workspace .entry)) (now (residue .entry)) (now (index .entry))) width height attribute (now (picture .entry)) (now (workspace .entry)) ⌝ }
+    ensures { λ _. ⌜ now (residue .exit) ≡ map-residues width height attribute (now (steps .entry)) (now (picture .entry)) (now (workspace .entry)) (now (residue .entry)) (now (index .entry)) ⌝ }
+    ensures { λ _. ⌜ now (index .exit) ≡ map-indices width height attribute (now (steps .entry)) (now (picture .entry)) (now (workspace .entry)) (now (residue .entry)) (now (index .entry)) ⌝ }
+{
+    match residues::map(
+        picture,
+        width,
+        height,
+        attribute,
+        steps,
+        workspace,
+        residue,
+        index,
+    ) {
+        residues::Mapped::Done => 0,
+        residues::Mapped::Refused(cause) => refused(cause),
     }
 }

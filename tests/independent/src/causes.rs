@@ -1,4 +1,4 @@
-// Paper 01, "Causes and their numbers": what is refused, in its order.
+// The scope, "Causes and their numbers": what is refused, in its order.
 
 pub const MOST_SIDE: u64 = 4096;
 pub const MOST_PIXELS: u64 = 1_048_576;

@@ -1,4 +1,4 @@
-// Paper 01, "Picture, nodes, openings", "Steps and maps" and "Tree record", word for word: level
+// The scope, "Picture, nodes, openings", "Steps and maps" and "Tree record", word for word: level
 // sets, components by flood fill, nodes, representatives, parents, openings, residues. Nothing here
 // is meant to be fast.
 

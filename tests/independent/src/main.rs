@@ -1,17 +1,18 @@
-// Runs libteldruf.a against paper 01's definitions, written here a second time and plainly. Seeds
+// Runs libteldruf.a against the scope's definitions, written here a second time and plainly. Seeds
 // are fixed unless another is named, so that a run can be repeated.
 //
 //   independent [--seed NUMBER] [--cases NUMBER] [--suites NAME,NAME..] [--program PATH]
 //
 // --cases is the number of small pictures, at least 1,000 so that every answer is met; the other
-// suites grow with it. The suites are table, calls, chains, files, large and program. --program
-// names the built program `basin`, which is then run in many folders.
+// suites grow with it. The suites are table, every, calls, chains, files, large and program.
+// --program names the built program `basin`, which is then run in many folders.
 
 mod calls;
 mod causes;
 mod chains;
 mod damage;
 mod definition;
+mod every;
 mod fast;
 mod files;
 mod interface;
@@ -40,7 +41,7 @@ fn options() -> Option<Options> {
     let mut options = Options {
         seed: 1,
         cases: 40_000,
-        suites: String::from("table,calls,chains,files,large,program"),
+        suites: String::from("table,every,calls,chains,files,large,program"),
         program: None,
     };
     let mut words = std::env::args().skip(1);
@@ -76,6 +77,7 @@ fn run(options: &Options) -> Report {
     let r = &mut report;
     println!("seed {seed}, {cases} small pictures");
     suite(r, options, "table", |r| table::run(r, seed));
+    suite(r, options, "every", |r| every::run(r, seed));
     suite(r, options, "calls", |r| calls::run(r, seed, cases));
     suite(r, options, "chains", |r| chains::run(r, seed, cases / 4));
     suite(r, options, "files", |r| files::run(r, seed, cases * 2));

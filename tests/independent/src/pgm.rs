@@ -1,4 +1,4 @@
-// Binary PGM by the Netpbm page and paper 01, "PGM".
+// Binary PGM by the Netpbm page and the scope, "PGM".
 
 use crate::causes::pixels;
 

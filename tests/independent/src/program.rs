@@ -113,7 +113,7 @@ const ODD_PICTURES: [&[u8]; 14] = [
     b"P5\n2049 1\n1\n",
 ];
 
-/// Paper 01's example.
+/// The scope's example.
 const EXAMPLE: (&[u8], &[u8], &str) = (
     b"P5\n3 1\n255\n\x0a\x28\x0a",
     b"attribute\tarea\nstep\t1\nstep\t2\n",
@@ -257,7 +257,7 @@ impl Place {
     fn systematic(&self, report: &mut Report) {
         let (basin, steps, due) = EXAMPLE;
         let same = steps::printed(Some(basin), Some(steps)) == due;
-        let fault = (!same).then(|| String::from("not as paper 01 prints it"));
+        let fault = (!same).then(|| String::from("not as the scope prints it"));
         report.check(fault, || String::from("definition here: the example"));
         let file = |bytes: &[u8]| Entry::File(bytes.to_vec());
         self.check(report, &file(basin), &file(steps));

@@ -1,4 +1,4 @@
-// Paper 01, "The program": the steps file, and what the program prints for two files.
+// The scope, "The program": the steps file, and what the program prints for two files.
 
 use crate::causes::is_step_list;
 use crate::definition::{Levels, Picture};

@@ -1,4 +1,4 @@
-// Paper 01, "Table of small pictures" and the readings that mislead: expected values as printed
+// The scope, "Table of small pictures" and the readings that mislead: expected values as printed
 // there, for the definitions here and for the library.
 
 use crate::calls::{check_build, check_map, check_open, ByDefinition, Call};

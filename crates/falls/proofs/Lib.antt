@@ -1,0 +1,4 @@
+pub mod Outlasted
+pub mod Largest
+pub mod Raised
+pub mod Nodes

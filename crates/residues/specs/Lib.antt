@@ -1,0 +1,4 @@
+pub mod Settle
+pub mod Passes
+pub mod Recorded
+pub mod Answer
