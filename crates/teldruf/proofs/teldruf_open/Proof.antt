@@ -1,6 +1,8 @@
+-- `teldruf::teldruf_open` meets its contract, by what `openings::open` answers and writes. Assumes nothing.
+use mathlib.Core.Path.{_∙_, sym, ap}
+use Rattle.teldruf.specs.Codes.{opened-code}
 use borrow.Author.Needs.{needs}
 use native.Mathlib.Omega.{arith}
-use borrow.Author.Needs.{needs}
 use Rattle.teldruf.proofs.teldruf_open.Statement.{statement}
 use Rattle.teldruf.proofs.teldruf_open.Tie as tie
 use Rattle.teldruf.proofs.teldruf_open.Reads as reads
@@ -8,45 +10,37 @@ use Rattle.teldruf.proofs.teldruf_open.Lts as lts
 use Rattle.openings.proofs.open.Reads as open-reads
 use Rattle.teldruf.proofs.refused.Reads as refused-reads
 
--- src/lib.rt:92:11
 open-requires : tie.Need-open-requires
 open-requires c κs = search needs
 
--- src/lib.rt:101:35
 enum-told : tie.Need-enum-told
 enum-told c = search needs
 
--- src/lib.rt:102:35
 enum-known-cause : tie.Need-enum-known-cause
 enum-known-cause c = search needs
 
--- src/lib.rt:102:45
 refused-requires : tie.Need-refused-requires
 refused-requires c κs = search needs
 
--- src/lib.rt:78:1
 same-length : tie.Need-same-length
 same-length c = search needs
 
--- src/lib.rt:78:1
 same-length-2 : tie.Need-same-length-2
 same-length-2 c = search needs
 
--- src/lib.rt:78:1
 returns : tie.Need-returns
-returns c = ?
+returns c =
+    (ap opened-code (sym (c .enum-told .given .1) ∙ c .before .before .before .before .before .before .«open» .ensures .0), (c .before .before .before .before .before .before .«open» .ensures .1 .1 .0, c .before .before .before .before .before .before .«open» .ensures .1 .1 .1))
 
--- src/lib.rt:78:1
 same-length-3 : tie.Need-same-length-3
 same-length-3 c = search needs
 
--- src/lib.rt:78:1
 same-length-4 : tie.Need-same-length-4
 same-length-4 c = search needs
 
--- src/lib.rt:78:1
 returns-2 : tie.Need-returns-2
-returns-2 c = ?
+returns-2 c =
+    (c .refused .ensures ∙ ap opened-code (sym (c .before .before .cause .given .1) ∙ c .before .before .before .before .before .before .before .before .«open» .ensures .0), (c .before .before .before .before .before .before .before .before .«open» .ensures .1 .1 .0, c .before .before .before .before .before .before .before .before .«open» .ensures .1 .1 .1))
 
 pub teldruf-open-spec : {M : Type 1} → statement M
 teldruf-open-spec =
