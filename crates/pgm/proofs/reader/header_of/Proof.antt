@@ -14,17 +14,16 @@ use prog.Memory.{Memory}
 use prog.Routine.{Routine}
 use prog.Wp.{Heap, Calls, Loops, WpFn, Tables}
 use ghost.Atoms.{Atoms, sem}
-use contract.Lifetimes.{Lfts}
 use contract.Monad.{Fun, fact}
 use contract.Running.{givenOf, tables, tablesOf}
 use types.Kit.{Given, ‵, raw, _⊛_, ⋆, some, later, _$_, _∵_, !, qed, by, move, use1, use2, split, join, pick, fsplit, fjoin, suffices, frame, await, done}
 use types.Run.{look, init, forget, stop, from, load, and-then, no-more, land, returns, enter, alloc1, alloc0, params1, pass1, pass0, free1, free0}
 use sound.WpLaws.{FmC, fmOf, WpFn-mono}
-use denote.RattleType.{RattleType, owns}
+use denote.RattleType.{owns}
 use denote.Laws.{Is, shows}
 use denote.Builtin.{u8}
 use denote.Ref.{RefT, NamedLft, now}
-use denote.Signature.{plain, namedLft}
+use denote.Signature.{plain}
 use denote.Slice.{sliceVal, ShrSlice, slice-vals, shr-slice-tells, shr-slice-lawful, shr-slice-copy}
 use denote.Steps.{peeks, heard, nothing}
 use denote.Enum.Laws as EL
@@ -40,6 +39,7 @@ use denote.Triple.Clauses.{ensured, lasts}
 use Rattle.pgm.specs.Header.{header-at}
 use Rattle.pgm.specs.declared.reader.Reader.{Reader}
 use Rattle.pgm.specs.declared.header.Header.{Header}
+use Rattle.pgm.proofs.Readers.{B}
 use Rattle.pgm.proofs.reader.Reader as T
 use Rattle.pgm.proofs.reader.Reader.Laws as T′
 use Rattle.pgm.proofs.header.Header as S
@@ -56,10 +56,6 @@ use Rattle.pgm.proofs.reader.header_of.Key.{name as #pgm·reader·heade
 use Rattle.pgm.proofs.reader.header_of as header-of
 use Rattle.pgm.proofs.reader.header_of.Statement as stated
 use Rattle.pgm.proofs.reader.header_of.Code as code
-
--- the struct's type, over the signature's lifetimes
-abbrev B : Lfts 1 → RattleType
-B κs = T.the-row (namedLft 1 0 tt κs)
 
 abbrev stayed : Stays (header-of.ended .signature .params) (header-of.ended .kept)
 stayed = (stay-none-slice (0 ∷ []) tt (plain (λ _. u8)) yes, tt)
