@@ -15,7 +15,7 @@ use Rattle.sets.proofs.Laws.{some-in-intro}
 use Rattle.sets.proofs.Gather.{gather-ext, gather-one, gather-union, min-le, max-ge, min-found}
 use Rattle.grid.specs.Attributes.{side, extent, attribute}
 use Rattle.grid.proofs.Attributes.{extent-ends, side-le}
-use Rattle.max_tree.specs.Accumulators.{packed, nothing, single, combined, measured, gathered}
+use Rattle.max_tree.specs.Accumulators.{packed, nothing, single, combined, measured, gathered, bound, In-order}
 
 -- for the area, and for the other two
 by-area : {A : Type 0} (a : ℕ) → (eqb a 1 ≡ true → A) → (eqb a 1 ≡ false → A) → A
@@ -83,10 +83,7 @@ module _ (a n : ℕ) (v : ℕ → ℕ) where
       gathered-union s (eqb q) u (λ x c i. is-false (eqb q x) (λ e. clash (s q) (rw (eqb-true q x e) i) out)) both
       ∙ ap (combined a (gathered a n v s)) (gather-one n (combined a) (nothing a) v q b ∙ combined-nothing a (v q))
 
--- a bound on the accumulators of n pixels
-abbrev pub bound : ℕ → ℕ → ℕ
-bound a n = cond (eqb a 1) n 16777215
-
+-- an accumulator is within its bound
 combined-small : (a n x y : ℕ) → x ≤ bound a 1 → y ≤ bound a n → combined a x y ≤ bound a (suc n)
 unfolding combined
 combined-small a n x y h k =
@@ -207,7 +204,7 @@ module _ (a n w : ℕ) (s : Positions) (q : ℕ) (b : q < n) (i : s q ≡ true) 
   least-small = omega (arith, min-le n n (side w a) s q b i, short q b)
 
   -- the least is at most the greatest
-  pub gathered-ends : eqb a 1 ≡ false → gathered a n (single a w) s % 4096 ≤ gathered a n (single a w) s / 4096
+  pub gathered-ends : In-order a (gathered a n (single a w) s)
   gathered-ends e =
       let l : ℕ = least n (side w a) s in
       let g : ℕ = greatest n (side w a) s in

@@ -203,7 +203,7 @@ module _ (w h : ℕ) (picture ws : List ℕ) (B : Buildable w h picture ws) wher
               root = forest₄ .root;
               first = first₄;
               ends =
-                  λ e q b.
+                  λ q b e.
                   rw
                   (held-node q b)
                   (gathered-ends a (length picture) w (member (node (length picture) (edge-neighbours w) (grey picture) q)) q b (self q b) (short a) e);

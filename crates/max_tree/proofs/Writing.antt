@@ -141,7 +141,7 @@ module _ (a : ℕ) (picture ws₀ : List ℕ) (start : Recordable a picture ws�
           within = b;
           parent = rw (W .rest q (omega arith) b) (start .within q b);
           up = λ e. rw (up-first e) (start .within r (root-in q b));
-          ends = λ e. rw same-held (start .ends e q b);
+          ends = λ e. rw same-held (start .ends q b e);
         }
 
     first-up : first-of (length picture) ws₀ (parent-of ws₀ r) ≡ lowest-of picture ws₀ (parent-of ws₀ r)

@@ -1,7 +1,7 @@
 -- What the passes ask and leave, on the lists that they are lent: part 1 the parent words, part 3 the order, part 4 the lowest own
 -- pixel of each node, part 5 its accumulator, both at the node's root.
-use Prim.Native.Nat.{ℕ, _+_, _*_, _/_, _%_, _≤_, _<_}
-use mathlib.Core.Bool.{Bool, true, false, cond}
+use Prim.Native.Nat.{ℕ, _+_, _*_, _≤_, _<_}
+use mathlib.Core.Bool.{Bool, true, cond}
 use mathlib.Core.List.{List}
 use mathlib.Core.Path.{_≡_}
 use lib.Dec.{eqb}
@@ -13,7 +13,7 @@ use Rattle.tree.specs.Forest.{Forest, Node-root, node-root, lowest}
 use Rattle.flood.specs.Levels.{grey}
 use Rattle.flood.specs.Flooding.{parent-of, order-of}
 use Rattle.flood.specs.Calls.{Sized}
-use Rattle.max_tree.specs.Accumulators.{nothing, single, combined, measured, gathered}
+use Rattle.max_tree.specs.Accumulators.{nothing, single, combined, measured, gathered, bound, In-order}
 use Rattle.max_tree.specs.Branches.{owned, branch}
 
 -- the words of part 4 and part 5
@@ -26,6 +26,10 @@ held-of n ws r = getD ws (4 * n + r) 0
 -- the node root of q, by the parent words
 abbrev pub root-of : List ℕ → List ℕ → ℕ → ℕ
 root-of picture ws q = node-root (grey picture) (parent-of ws) q
+
+-- the lowest own pixel of the node whose root is r
+abbrev pub lowest-of : List ℕ → List ℕ → ℕ → ℕ
+lowest-of picture ws r = lowest (length picture) (grey picture) (parent-of ws) r
 
 -- part 5 holds the accumulator of no pixel, and rows and columns are short
 pub record Blank (w a : ℕ) (picture ws : List ℕ) : Type 0 where
@@ -41,8 +45,7 @@ pub record Owned (w a : ℕ) (picture ws ws' : List ℕ) : Type 0 where
   pub kept : (k : ℕ) → k < 3 * length picture → getD ws' k 0 ≡ getD ws k 0
   pub first :
       (q : ℕ) → q < length picture
-      → first-of (length picture) ws' (root-of picture ws q)
-      ≡ lowest (length picture) (grey picture) (parent-of ws) (root-of picture ws q)
+      → first-of (length picture) ws' (root-of picture ws q) ≡ lowest-of picture ws (root-of picture ws q)
   pub held :
       (r : ℕ) → r < length picture
       → held-of (length picture) ws' r
@@ -88,7 +91,7 @@ pub record Pourable (a : ℕ) (picture ws : List ℕ) : Type 0 where
   pub forest : Forest (length picture) adj (grey picture) (parent-of ws)
   pub order : Order (length picture) (grey picture) (order-of (length picture) ws)
   pub value : ℕ → ℕ
-  pub small : (q : ℕ) → q < length picture → value q ≤ cond (eqb a 1) 1 16777215
+  pub small : (q : ℕ) → q < length picture → value q ≤ bound a 1
   pub own : Own-held a picture ws value
 
 -- part 5 holds at each root the accumulator of the node
@@ -110,10 +113,7 @@ pub record Writable (a : ℕ) (picture : List ℕ) (q : ℕ) (ws : List ℕ) : T
   pub within : q < length picture
   pub parent : parent-of ws q < length picture
   pub up : is-first picture q ws ≡ true → parent-of ws (root-of picture ws q) < length picture
-  pub ends :
-      eqb a 1 ≡ false
-      → held-of (length picture) ws (root-of picture ws q) % 4096
-      ≤ held-of (length picture) ws (root-of picture ws q) / 4096
+  pub ends : In-order a (held-of (length picture) ws (root-of picture ws q))
 
 -- the workspace once the words of q are written: those of a representative, or of another pixel
 abbrev pub first-written : ℕ → List ℕ → ℕ → List ℕ → ℕ → List ℕ
@@ -140,17 +140,10 @@ pub record Recordable (a : ℕ) (picture ws : List ℕ) : Type 0 where
   pub root : (q : ℕ) → q < length picture → Node-root (grey picture) (parent-of ws) (parent-of ws q)
   pub first :
       (q : ℕ) → q < length picture
-      → first-of (length picture) ws (root-of picture ws q)
-      ≡ lowest (length picture) (grey picture) (parent-of ws) (root-of picture ws q)
-  pub ends :
-      eqb a 1 ≡ false → (q : ℕ) → q < length picture
-      → held-of (length picture) ws (root-of picture ws q) % 4096
-      ≤ held-of (length picture) ws (root-of picture ws q) / 4096
+      → first-of (length picture) ws (root-of picture ws q) ≡ lowest-of picture ws (root-of picture ws q)
+  pub ends : (q : ℕ) → q < length picture → In-order a (held-of (length picture) ws (root-of picture ws q))
 
 -- the words of the record in terms of what was in the workspace
-abbrev pub lowest-of : List ℕ → List ℕ → ℕ → ℕ
-lowest-of picture ws r = lowest (length picture) (grey picture) (parent-of ws) r
-
 abbrev pub lowest-own-pixel : List ℕ → List ℕ → Positions
 lowest-own-pixel picture ws q = eqb (lowest-of picture ws (root-of picture ws q)) q
 

@@ -9,6 +9,7 @@ ghost use Rattle.flood.specs.Levels.{grey};
 ghost use Rattle.max_tree.specs.Passes.{Blank, Owned, Pourable, poured-at, Pour, Poured, Writable, written-at, is-first, Recordable, Recorded};
 use crate::words;
 
+// Fills a part of the workspace that is lent with one word.
 pub fn fill(part: &mut [u32], word: u32)
     ensures { λ _. ⌜ ((i : ℕ) → i < length (now (part .entry)) → getD (now (part .exit)) i 0 ≡ word) ⌝ }
 {

@@ -1,10 +1,8 @@
 // The accumulators of the attributes, one word each.
-ghost use mathlib.Core.Bool.{false};
 ghost use mathlib.Core.Path.{_≡_};
-ghost use Prim.Native.Nat.{_≤_, _<_, _/_, _%_, min, max};
-ghost use lib.Dec.{eqb};
+ghost use Prim.Native.Nat.{_≤_, _<_, min, max};
 ghost use Rattle.grid.specs.Attributes.{side};
-ghost use Rattle.max_tree.specs.Accumulators.{nothing, single, combined, measured};
+ghost use Rattle.max_tree.specs.Accumulators.{nothing, single, combined, measured, In-order};
 
 fn smaller(x: u32, y: u32) -> u32
     ensures { λ r. ⌜ r ≡ min x y ⌝ }
@@ -63,7 +61,7 @@ pub fn combine(attribute: u32, x: u32, y: u32) -> u32
 
 // The attribute that is read from an accumulator.
 pub fn measure(attribute: u32, x: u32) -> u32
-    requires { ⌜ (eqb attribute 1 ≡ false → x % 4096 ≤ x / 4096) ⌝ }
+    requires { ⌜ In-order attribute x ⌝ }
     ensures { λ r. ⌜ r ≡ measured attribute x ⌝ }
 {
     if attribute == 1 {

@@ -3,7 +3,6 @@ use Prim.Native.Nat.{ℕ, _+_, _*_, _-_, _≤_, _<_}
 use mathlib.Core.Path.{_≡_, refl, sym, _∙_, ap}
 use mathlib.Core.Bool.{Bool, true, false}
 use mathlib.Core.List.{List, [], _∷_, _++_}
-use native.Mathlib.Nat.{add-sub-cancel-left}
 use native.Mathlib.Omega.{arith}
 use lib.Dec.{leb, eqb}
 use lib.ListN.{length, take, drop, length-drop}
@@ -184,8 +183,8 @@ module _ (file : List ℕ) (width height maximum start n : ℕ) (e : read-answer
       let a = accepted file width height maximum start e in
       omega (arith, a .length-right, some-pixel (bounded width height (a .sides-right)))
 
-  pub raster-accepted : take (start + n - start) (drop start file) ≡ raster-of file
-  raster-accepted = rw (e, add-sub-cancel-left start n, pixels)
+  pub raster-accepted : take n (drop start file) ≡ raster-of file
+  raster-accepted = rw (e, pixels)
 
 -- what an accepted picture gives the writer
 pub record Writable (picture : List ℕ) (width height maximum room total : ℕ) : Type 0 where

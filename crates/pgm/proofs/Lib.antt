@@ -7,3 +7,4 @@ pub mod Files
 pub mod Parts
 pub mod Shape
 pub mod RoundTrip
+pub mod Readers

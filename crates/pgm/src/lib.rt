@@ -12,6 +12,7 @@ ghost use Rattle.pgm.specs.Write.{decimal, pgm-file, write-answer, buffe
 
 mod digits;
 mod header;
+mod reader;
 mod samples;
 
 use causes::Cause;
@@ -101,7 +102,7 @@ pub fn read(file: &[u8]) -> Found
     ensures { λ r. ⌜ r ≡ read-answer (now (file .entry)) ⌝ }
 {
     if header::has_sign(file) {
-        judge(file, header::header_at(file, 2))
+        judge(file, reader::header_of(file))
     } else {
         Found::Refused(Cause::Sign)
     }
@@ -120,8 +121,7 @@ pub fn raster(file: &[u8]) -> &[u8]
     else {
         return &file[..0];
     };
-    let end = start + pixels(width, height);
-    &file[start..end]
+    reader::raster_from(file, start, pixels(width, height))
 }
 
 // Stores one byte and the digits of x from `at` on, and answers the position after them.

@@ -9,25 +9,25 @@ use Rattle.pgm.proofs.read.Tie as tie
 use Rattle.pgm.proofs.read.Reads as reads
 use Rattle.pgm.proofs.read.Lts as lts
 use Rattle.pgm.proofs.header.has_sign.Reads as has-sign-reads
-use Rattle.pgm.proofs.header.header_at.Reads as header-at-reads
+use Rattle.pgm.proofs.reader.header_of.Reads as header-of-reads
 use Rattle.pgm.proofs.judge.Reads as judge-reads
 
 has-sign-requires : tie.Need-has-sign-requires
 has-sign-requires c κs = search needs
 
-header-at-requires : tie.Need-header-at-requires
-header-at-requires c κs = search needs
+header-of-requires : tie.Need-header-of-requires
+header-of-requires c κs = search needs
 
 judge-requires : tie.Need-judge-requires
 judge-requires c κs = search needs
 
 returns : tie.Need-returns
 returns c =
-    c .judge .ensures ∙ ap (judged _) (c .before .header-at .ensures) ∙ read-signed _ (sym (c .before .before .before .has-sign .ensures) ∙ c .before .before .if1 .taken)
+    c .judge .ensures ∙ ap (judged _) (c .before .header-of .ensures) ∙ read-signed _ (sym (c .before .before .before .has-sign .ensures) ∙ c .before .before .if1 .taken)
 
 returns-2 : tie.Need-returns-2
 returns-2 c = read-unsigned _ (sym (c .before .has-sign .ensures) ∙ c .if1 .left)
 
 pub read-spec : {M : Type 1} → statement M
 read-spec =
-    tie.close (tie.spec has-sign-requires header-at-requires judge-requires returns returns-2)
+    tie.close (tie.spec has-sign-requires header-of-requires judge-requires returns returns-2)

@@ -1,0 +1,20 @@
+-- `residues::passes::place` meets its contract.
+use borrow.Author.Needs.{needs}
+use borrow.Author.Tests.{eq-eqb, ne-eqb}
+use Rattle.residues.specs.Settle.{place-of}
+use Rattle.residues.proofs.passes.place.Statement.{statement}
+use Rattle.residues.proofs.passes.place.Tie as tie
+
+returns : tie.Need-returns
+unfolding place-of
+returns c = simp (eq-eqb _ _ (c .if1 .taken))
+
+outlasted-by-requires : tie.Need-outlasted-by-requires
+outlasted-by-requires c κs = search needs
+
+returns-2 : tie.Need-returns-2
+unfolding place-of
+returns-2 c = simp (ne-eqb _ _ (c .before .if1 .left)) (c .outlasted-by .ensures)
+
+pub place-spec : {M : Type 1} → statement M
+place-spec = tie.close (tie.spec returns outlasted-by-requires returns-2)

@@ -1,0 +1,105 @@
+-- `residues::passes::visit` meets its contract.
+use borrow.Author.Needs.{needs}
+use native.Mathlib.Omega.{arith}
+use Rattle.residues.proofs.Visiting.{visit-inside, visit-parent, visit-ready, visit-skips, visit-settles}
+use Rattle.residues.proofs.passes.visit.Statement.{statement}
+use Rattle.residues.proofs.passes.visit.Tie as tie
+
+mul-r : tie.Need-mul-r
+mul-r c = search needs
+
+add-r : tie.Need-add-r
+add-r c = search needs
+
+mul-r-2 : tie.Need-mul-r-2
+mul-r-2 c = search needs
+
+slice-read-r : tie.Need-slice-read-r
+slice-read-r c = search needs
+
+cast-r : tie.Need-cast-r
+cast-r c = omega (arith, visit-inside (c .before .before .before .before .before .before .pre))
+
+add-a : tie.Need-add-a
+add-a c = omega (arith, visit-inside (c .before .before .before .before .before .before .pre))
+
+mul-a : tie.Need-mul-a
+mul-a c = omega (arith, visit-inside (c .before .before .before .before .before .before .pre))
+
+slice-read-a : tie.Need-slice-read-a
+slice-read-a c = omega (arith, visit-inside (c .before .before .before .before .before .before .before .pre))
+
+returns : tie.Need-returns
+returns c = visit-skips (c .before .before .before .before .before .before .before .before .pre) (c .if1 .taken)
+
+mul-parent : tie.Need-mul-parent
+mul-parent c = omega (arith, visit-inside (c .before .before .before .before .before .before .before .before .pre))
+
+slice-read-parent : tie.Need-slice-read-parent
+slice-read-parent c = omega (arith, visit-inside (c .before .before .before .before .before .before .before .before .before .pre))
+
+cast-parent : tie.Need-cast-parent
+cast-parent c = omega (arith, visit-parent (c .before .before .before .before .before .before .before .before .before .pre))
+
+mul-start : tie.Need-mul-start
+mul-start c = search needs
+
+mul-settle : tie.Need-mul-settle
+mul-settle c = search needs
+
+sub-settle : tie.Need-sub-settle
+sub-settle c = search needs
+
+part-settle-start : tie.Need-part-settle-start
+part-settle-start c = search needs
+
+part-settle-end : tie.Need-part-settle-end
+part-settle-end c = search needs
+
+settle-requires : tie.Need-settle-requires
+settle-requires c κs = visit-ready (c .before .before .before .before .before .before .before .before .before .before .before .before .pre) (c .before .before .before .before .if1 .left)
+
+same-length : tie.Need-same-length
+same-length c = search needs
+
+same-length-2 : tie.Need-same-length-2
+same-length-2 c = search needs
+
+same-length-3 : tie.Need-same-length-3
+same-length-3 c = search needs
+
+returns-2 : tie.Need-returns-2
+returns-2 c =
+    visit-settles
+    (c .before .before .before .before .before .before .before .before .before .before .before .before .before .before .before .before .before .before .before .pre)
+    (c .before .before .before .before .before .before .before .before .before .before .before .if1 .left)
+    (c .before .before .before .before .before .before .before .before .before .before .before .before .before .before .before .before .before .before .shared-slice-known .given _ .fits)
+    (c .before .before .before .before .before .before .settle .kept .1 .1 .1 .1 .1 .0)
+    (c .before .before .before .before .before .before .settle .ensures)
+
+pub visit-spec : {M : Type 1} → statement M
+visit-spec =
+    tie.close
+    (tie.spec
+    mul-r
+    add-r
+    mul-r-2
+    slice-read-r
+    cast-r
+    add-a
+    mul-a
+    slice-read-a
+    returns
+    mul-parent
+    slice-read-parent
+    cast-parent
+    mul-start
+    mul-settle
+    sub-settle
+    part-settle-start
+    part-settle-end
+    settle-requires
+    same-length
+    same-length-2
+    same-length-3
+    returns-2)

@@ -1,0 +1,62 @@
+-- How the tests of parsing decide its answer, and what the lent steps then hold.
+use Prim.Native.Nat.{ℕ, _+_, _≤_}
+use mathlib.Core.Path.{_≡_}
+use mathlib.Core.Bool.{true, false, _&&_}
+use mathlib.Core.List.{List}
+use lib.Dec.{leb}
+use lib.ListN.{length, take, drop}
+use lib.Seq.{sets}
+use borrow.Author.Tests.{eq-eqb, ne-eqb, leb-true}
+use Rattle.causes.specs.declared.Cause.{Cause}
+use Rattle.causes.specs.declared.Cause.the-variants.{Attribute, Steps as BadSteps, StepsFile}
+use Rattle.causes.proofs.Laws.{both-true}
+use Rattle.steps.specs.Fields.{attribute-of}
+use Rattle.steps.specs.Lines.{lines, well-formed, thresholds}
+use Rattle.calls.specs.Judging.{all-good, steps-good}
+use Rattle.opening.specs.Residue.{rising}
+use Rattle.steps.specs.Answer.{attribute-in, steps-in, parse-answer, steps-after}
+use Rattle.steps.specs.declared.Parsed.the-variants.{Steps, Refused}
+use Rattle.steps.proofs.Splitting.{FirstLine}
+
+pub steps-few : (steps : List ℕ) → steps-good steps ≡ true → length steps ≤ 256
+unfolding steps-good
+steps-few steps e =
+    let sized = both-true (leb 1 (length steps) && leb (length steps) 256) (rising 0 steps && all-good steps) e .0 in
+    leb-true (length steps) 256 (both-true (leb 1 (length steps)) (leb (length steps) 256) sized .1)
+
+module _ (file : List ℕ) where
+  pub malformed : well-formed file ≡ false → Refused StepsFile ≡ parse-answer file
+  unfolding parse-answer
+  malformed e = rw e
+
+  module _ (good : well-formed file ≡ true) {end : ℕ} (first : FirstLine file end) where
+    attribute-first : attribute-in file ≡ attribute-of (drop 10 (take end file))
+    unfolding attribute-in
+    attribute-first = rw (first .splits)
+
+    steps-others : steps-in file ≡ thresholds (lines (drop (end + 1) file))
+    unfolding steps-in
+    steps-others = rw (first .splits)
+
+    module _ (attribute : ℕ) (is : attribute ≡ attribute-of (drop 10 (take end file))) where
+      pub unknown-word : attribute ≡ 0 → Refused Attribute ≡ parse-answer file
+      unfolding parse-answer
+      unknown-word e = rw (good, attribute-first, ← is, eq-eqb attribute 0 e)
+
+      module _ (known : attribute ≡ 0 → ⊥) where
+        pub bad-steps : steps-good (thresholds (lines (drop (end + 1) file))) ≡ false → Refused BadSteps ≡ parse-answer file
+        unfolding parse-answer
+        bad-steps e = rw (good, attribute-first, ← is, ne-eqb attribute 0 known, steps-others, e)
+
+        module _ (listed : steps-good (thresholds (lines (drop (end + 1) file))) ≡ true) (count : ℕ) (total : count ≡ length (thresholds (lines (drop (end + 1) file)))) where
+          accepted : Steps attribute count ≡ parse-answer file
+          unfolding parse-answer
+          accepted = rw (good, attribute-first, ← is, ne-eqb attribute 0 known, steps-others, listed, ← total)
+
+          pub accepted-stored : (lent now : List ℕ) → now ≡ sets lent 0 (thresholds (lines (drop (end + 1) file))) → (Steps attribute count ≡ parse-answer file) × (now ≡ steps-after file lent)
+          unfolding steps-after
+          accepted-stored lent now e = (accepted, rw (← accepted, steps-others) e)
+
+  pub refused-kept : {cause : Cause} (lent : List ℕ) → Refused cause ≡ parse-answer file → (Refused cause ≡ parse-answer file) × (lent ≡ steps-after file lent)
+  unfolding steps-after
+  refused-kept lent e = (e, rw (← e))

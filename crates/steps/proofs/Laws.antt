@@ -1,0 +1,80 @@
+-- What an accepted steps file gives: an attribute, a step list, and where its thresholds stand in the lent steps.
+use Prim.Native.Nat.{ℕ, _≤_}
+use mathlib.Core.Path.{_≡_, refl, sym, _∙_}
+use mathlib.Core.Bool.{Bool, true, false, cond, not}
+use mathlib.Core.List.{List, _++_}
+use native.Mathlib.Nat.{zero-add}
+use native.Mathlib.Omega.{arith}
+use lib.Dec.{eqb}
+use lib.ListN.{length, take, drop}
+use lib.Seq.{sets-eq, take-at}
+use borrow.Author.Tests.{not-true, eqb-false}
+use Rattle.causes.specs.declared.Cause.{Cause}
+use Rattle.causes.specs.declared.Cause.the-variants.{Attribute, Steps as BadSteps, StepsFile}
+use Rattle.steps.specs.Fields.{same, area, height, width, attribute-of}
+use Rattle.steps.specs.Lines.{lines, word-on, well-formed}
+use Rattle.calls.specs.Judging.{steps-good}
+use Rattle.steps.specs.Answer.{attribute-in, steps-in, must, parse-answer, steps-after}
+use Rattle.steps.specs.declared.Parsed.{Parsed}
+use Rattle.steps.specs.declared.Parsed.the-variants.{Steps}
+use Rattle.steps.proofs.Answering.{steps-few}
+
+-- a test that did not refuse
+must-steps : (b : Bool) (cause : Cause) (answer : Parsed) (attribute count : ℕ) → must b cause answer ≡ Steps attribute count → (b ≡ true) × (answer ≡ Steps attribute count)
+must-steps true cause answer attribute count e = (refl, e)
+must-steps false cause answer attribute count e = let z : _≡_ {A = ℕ} 0 1 = cc in absurd (omega arith)
+
+attribute-most : (word : List ℕ) → attribute-of word ≤ 3
+unfolding attribute-of
+attribute-most word = go (same area word) (same height word) (same width word)
+  where
+    go : (a h w : Bool) → cond a 1 (cond h 2 (cond w 3 0)) ≤ 3
+    go true h w = omega arith
+    go false true w = omega arith
+    go false false true = omega arith
+    go false false false = omega arith
+
+pub record Accepted (file : List ℕ) (attribute count : ℕ) : Type 0 where
+  pub shape : well-formed file ≡ true
+  pub named : attribute ≡ attribute-in file
+  pub some-attribute : 1 ≤ attribute
+  pub attribute-within : attribute ≤ 3
+  pub step-list : steps-good (steps-in file) ≡ true
+  pub total : count ≡ length (steps-in file)
+  pub few-steps : count ≤ 256
+
+pub accepted-file : (file : List ℕ) (attribute count : ℕ) → parse-answer file ≡ Steps attribute count → Accepted file attribute count
+unfolding parse-answer attribute-in
+accepted-file file attribute count e =
+    let judged : Parsed = must (steps-good (steps-in file)) BadSteps (Steps (attribute-in file) (length (steps-in file))) in
+    let a = must-steps (well-formed file) StepsFile (must (not (eqb (attribute-in file) 0)) Attribute judged) attribute count e in
+    let b = must-steps (not (eqb (attribute-in file) 0)) Attribute judged attribute count (a .1) in
+    let c = must-steps (steps-good (steps-in file)) BadSteps (Steps (attribute-in file) (length (steps-in file))) attribute count (b .1) in
+    let answer : Steps (attribute-in file) (length (steps-in file)) ≡ Steps attribute count = c .1 in
+    let same-attribute : attribute ≡ attribute-in file = cc in
+    let as-many : count ≡ length (steps-in file) = cc in
+    let known = eqb-false (attribute-in file) 0 (not-true (eqb (attribute-in file) 0) (b .0)) in
+    record {
+      shape = a .0;
+      named = same-attribute;
+      some-attribute = omega (arith, known);
+      attribute-within = omega (arith, attribute-most (word-on (lines file)));
+      step-list = c .0;
+      total = as-many;
+      few-steps = omega (arith, steps-few (steps-in file) (c .0));
+    }
+
+-- the first `count` of 256 lent entries are the listed thresholds, the others as they were
+pub accepted-steps : (file lent : List ℕ) (attribute count : ℕ) → length lent ≡ 256 → parse-answer file ≡ Steps attribute count → steps-after file lent ≡ steps-in file ++ drop count lent
+unfolding steps-after
+accepted-steps file lent attribute count size e =
+    let a = accepted-file file attribute count e in
+    let few : length (steps-in file) ≤ length lent = omega (arith, a .few-steps, a .total) in
+    rw (e, a .total) (sets-eq (steps-in file) lent 0 (omega arith) ∙ rw (zero-add (length (steps-in file))))
+
+-- so the first `count` entries, lent on, are a step list
+pub accepted-list : (file lent : List ℕ) (attribute count : ℕ) → length lent ≡ 256 → parse-answer file ≡ Steps attribute count → take count (steps-after file lent) ≡ steps-in file
+accepted-list file lent attribute count size e =
+    rw
+    (accepted-steps file lent attribute count size e)
+    (take-at (steps-in file) (drop count lent) count (sym (accepted-file file attribute count e .total)))

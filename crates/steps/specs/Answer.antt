@@ -1,0 +1,41 @@
+-- What parsing a steps file answers, and what the lent steps then hold.
+use Prim.Native.Nat.{ℕ}
+use mathlib.Core.Bool.{Bool, true, false, not}
+use mathlib.Core.List.{List}
+use lib.ListN.{length}
+use lib.Seq.{sets}
+use lib.Dec.{eqb}
+use Rattle.causes.specs.declared.Cause.{Cause}
+use Rattle.causes.specs.declared.Cause.the-variants.{Attribute, Steps as BadSteps, StepsFile}
+use Rattle.steps.specs.Fields.{attribute-of}
+use Rattle.steps.specs.Lines.{lines, well-formed, word-on, listed}
+use Rattle.calls.specs.Judging.{steps-good}
+use Rattle.steps.specs.declared.Parsed.{Parsed}
+use Rattle.steps.specs.declared.Parsed.the-variants.{Steps, Refused}
+
+-- the attribute that a file names, and the thresholds that it lists, in its order
+unfoldable pub attribute-in : List ℕ → ℕ
+attribute-in file = attribute-of (word-on (lines file))
+
+unfoldable pub steps-in : List ℕ → List ℕ
+steps-in file = listed (lines file)
+
+-- the answer where the test holds, else the refusal with the cause
+abbrev pub must : Bool → Cause → Parsed → Parsed
+must true cause answer = answer
+must false cause answer = Refused cause
+
+-- The program's order "13, 3, 4": the file's shape, its word, its steps
+unfoldable pub parse-answer : List ℕ → Parsed
+parse-answer file =
+    must (well-formed file) StepsFile
+    (must (not (eqb (attribute-in file) 0)) Attribute
+    (must (steps-good (steps-in file)) BadSteps (Steps (attribute-in file) (length (steps-in file)))))
+
+-- the thresholds are stored from the first entry on, and the entries after them stay; a refusal leaves every entry as it was
+abbrev pub steps-with : Parsed → List ℕ → List ℕ → List ℕ
+steps-with (Steps attribute count) thresholds steps = sets steps 0 thresholds
+steps-with (Refused cause) thresholds steps = steps
+
+unfoldable pub steps-after : List ℕ → List ℕ → List ℕ
+steps-after file steps = steps-with (parse-answer file) (steps-in file) steps
