@@ -79,7 +79,8 @@ module _ {n : ℕ} {adj : Adjacency} {attr : Positions → ℕ} {picture steps w
 
   run-right : (q : ℕ) → q < n → fall-place n adj attr steps (grey picture) q < length steps → Parent n adj (grey picture) q (getD words q 0)
       → Right n adj attr picture steps runs residues indices (getD words q 0)
-      → run-of (fall-place n adj attr steps (grey picture) q) (down picture q (getD words q 0)) (getD runs (getD words q 0) 0) ≡ running-fall n adj attr steps (grey picture) q
+      → run-of (fall-place n adj attr steps (grey picture) q) (down picture q (getD words q 0)) (getD runs (getD words q 0) 0)
+      ≡ running-fall n adj attr steps (grey picture) q
   unfolding run-of
   run-right q b l w above =
       rw
@@ -123,7 +124,8 @@ module _ {n : ℕ} {adj : Adjacency} {attr : Positions → ℕ} {picture steps w
 
   -- a pixel has what its representative holds
   holder-right : (q : ℕ) → q < n
-      → (getD residues (holder n words q) 0 ≡ residue-at n adj attr steps (grey picture) q) × (getD indices (holder n words q) 0 ≡ index-at n adj attr steps (grey picture) q)
+      → (getD residues (holder n words q) 0 ≡ residue-at n adj attr steps (grey picture) q)
+      × (getD indices (holder n words q) 0 ≡ index-at n adj attr steps (grey picture) q)
   holder-right q b =
       ⊎-elim
       (λ e. other (eqb-true (getD words (n + q) 0) 0 e))
@@ -131,13 +133,15 @@ module _ {n : ℕ} {adj : Adjacency} {attr : Positions → ℕ} {picture steps w
       (decided (eqb (getD words (n + q) 0) 0))
     where
       own : Stands n words q
-          → (getD residues (holder n words q) 0 ≡ residue-at n adj attr steps (grey picture) q) × (getD indices (holder n words q) 0 ≡ index-at n adj attr steps (grey picture) q)
+          → (getD residues (holder n words q) 0 ≡ residue-at n adj attr steps (grey picture) q)
+          × (getD indices (holder n words q) 0 ≡ index-at n adj attr steps (grey picture) q)
       own stands =
           let right = right-all (suc (getD picture q 0)) q b (le-refl (suc (getD picture q 0))) stands in
           rw (holder-self n words q stands) (right .residue, right .index)
 
       other : getD words (n + q) 0 ≡ 0
-          → (getD residues (holder n words q) 0 ≡ residue-at n adj attr steps (grey picture) q) × (getD indices (holder n words q) 0 ≡ index-at n adj attr steps (grey picture) q)
+          → (getD residues (holder n words q) 0 ≡ residue-at n adj attr steps (grey picture) q)
+          × (getD indices (holder n words q) 0 ≡ index-at n adj attr steps (grey picture) q)
       other none =
           let r : ℕ = representative n adj (grey picture) q in
           let e : getD words q 0 ≡ r = recorded-other symm positive recorded q b none in

@@ -105,10 +105,12 @@ module _ (picture words residues indices : List ℕ) (m r parent : ℕ) where
     word-is : set words r (k * 256 + (down picture r parent + s)) ≡ set words r (word-of m j (down picture r parent) (getD words parent 0))
     word-is = rw (word-falls m j (down picture r parent) (getD words parent 0) falls, run-is, e) refl
 
-    best-is : best-of m j (down picture r parent) (getD words parent 0) (getD residues parent 0) ≡ cond (ltb (getD residues parent 0) (down picture r parent + s)) (down picture r parent + s) (getD residues parent 0)
+    best-is : best-of m j (down picture r parent) (getD words parent 0) (getD residues parent 0)
+        ≡ cond (ltb (getD residues parent 0) (down picture r parent + s)) (down picture r parent + s) (getD residues parent 0)
     best-is = rw (best-falls m j (down picture r parent) (getD words parent 0) (getD residues parent 0) falls, run-is) refl
 
-    index-is : index-of m j (down picture r parent) (getD words parent 0) (getD residues parent 0) (getD indices parent 0) ≡ cond (ltb (getD residues parent 0) (down picture r parent + s)) (j + 1) (getD indices parent 0)
+    index-is : index-of m j (down picture r parent) (getD words parent 0) (getD residues parent 0) (getD indices parent 0)
+        ≡ cond (ltb (getD residues parent 0) (down picture r parent + s)) (j + 1) (getD indices parent 0)
     index-is = rw (index-falls m j (down picture r parent) (getD words parent 0) (getD residues parent 0) (getD indices parent 0) falls, run-is) refl
 
     -- a fall that is more than the parent's largest residue
