@@ -1,5 +1,5 @@
-// The program `basin`, run in a folder of its own for each case; what it prints is held to paper
-// 01.
+// The program `basin`, run in a folder of its own for each case; what it prints is held to the
+// scope.
 
 use crate::calls::step_list;
 use crate::pgm;
