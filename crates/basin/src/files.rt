@@ -9,7 +9,7 @@ pub enum Loaded {
     Failed,
 }
 
-// Reads on from `done` bytes. A read that fails is told from the end of the file.
+// Reads until the buffer is full or the file ends. A read that fails is told from the end of the file.
 fn read_on(fd: i32, buffer: &mut [u8]) -> Loaded
     ensures { λ r. ⌜ loaded-within r (length (now (buffer .exit))) ⌝ }
 {

@@ -1,14 +1,71 @@
 // Sizes the picture of basin.pgm by the steps of steps.tsv, both in the working folder, and prints a line for each pixel: its row, column,
 // grey, residue and index. A refusal prints its one line alone, since nothing is printed before every cause is judged.
 ghost use mathlib.Core.Path.{_≡_};
-ghost use Prim.Native.Nat.{_≤_};
+ghost use Prim.Native.Nat.{_≤_, _<_};
 ghost use lib.ListN.{length};
 
 mod files;
-mod lines;
+mod judging;
 
 use causes::Cause;
-use files::Loaded;
+use judging::Job;
+use judging::Lengths;
+use libc::STDOUT_FILENO;
+
+fn text(s: &[u8]) {
+    io::write_all(STDOUT_FILENO, s);
+}
+
+fn number(n: u64) {
+    io::print_decimal(STDOUT_FILENO, n);
+}
+
+fn field(n: u64) {
+    text(b"\t");
+    number(n);
+}
+
+fn byte(b: u8) -> u64 {
+    b as u64
+}
+
+fn place(k: u16) -> u64 {
+    k as u64
+}
+
+fn refused(cause: Cause) {
+    text(b"refused");
+    field(causes::number(cause) as u64);
+    text(b"\n");
+}
+
+fn pixel(row: u64, column: u64, grey: u8, residue: u8, index: u16) {
+    number(row);
+    field(column);
+    field(byte(grey));
+    field(byte(residue));
+    field(place(index));
+    text(b"\n");
+}
+
+// A head line, then a line for each pixel in order of position.
+fn listing(picture: &[u8], width: u32, residue: &[u8], index: &[u16])
+    requires { ⌜ (0 < width) × (length (now residue) ≡ length (now picture)) × (length (now index) ≡ length (now picture)) ⌝ }
+{
+    text(b"row\tcol\tgrey\tresidue\tindex\n");
+    let w = width as usize;
+    let mut p = 0;
+    while p < picture.len() {
+        pixel(
+            (p / w) as u64,
+            (p % w) as u64,
+            picture[p],
+            residue[p],
+            index[p],
+        );
+        p += 1;
+    }
+}
 
 fn words() -> [u32; 12288]
     ensures { λ r. ⌜ 12288 ≡ length r ⌝ }
@@ -53,8 +110,8 @@ fn sized(
         &mut index[..n],
     );
     match mapped {
-        residues::Mapped::Done => lines::listing(picture, width, &residue[..n], &index[..n]),
-        residues::Mapped::Refused(cause) => lines::refused(cause),
+        residues::Mapped::Done => listing(picture, width, &residue[..n], &index[..n]),
+        residues::Mapped::Refused(cause) => refused(cause),
     }
 }
 
@@ -77,62 +134,33 @@ fn maps(picture: &[u8], width: u32, height: u32, attribute: u32, steps: &[u32])
     );
 }
 
-// The steps file is judged after the picture.
-fn with_steps(picture: &[u8], width: u32, height: u32, list: &[u8])
-    requires { ⌜ length (now picture) ≤ 2048 ⌝ }
-{
+// Prints what the two files' bytes give.
+fn answer(file: &[u8], list: &[u8]) {
     let mut thresholds = [0u32; 256];
-    match steps::parse(list, &mut thresholds) {
-        steps::Parsed::Steps { attribute, count } => maps(
-            picture,
+    match judging::judge(file, list, &mut thresholds) {
+        Job::Size {
+            width,
+            height,
+            attribute,
+            count,
+        } => maps(
+            pgm::raster(file),
             width,
             height,
             attribute,
             &thresholds[..count],
         ),
-        steps::Parsed::Refused(cause) => lines::refused(cause),
-    }
-}
-
-fn with_picture(file: &[u8], list: &[u8]) {
-    match pgm::read(file) {
-        pgm::Found::Picture {
-            width,
-            height,
-            maximum: _,
-            start: _,
-        } => {
-            let picture = pgm::raster(file);
-            if 2048 < picture.len() {
-                lines::refused(Cause::TooLarge);
-            } else {
-                with_steps(picture, width, height, list);
-            }
-        }
-        pgm::Found::Refused(cause) => lines::refused(cause),
+        Job::Refused(cause) => refused(cause),
     }
 }
 
 fn main() {
-    let mut picture = [0u8; 4097];
-    let mut list = [0u8; 4097];
-    let a = files::load(b"basin.pgm", &mut picture);
-    let b = files::load(b"steps.tsv", &mut list);
-    let Loaded::Bytes(p) = a else {
-        lines::refused(Cause::NotRead);
-        return;
-    };
-    let Loaded::Bytes(s) = b else {
-        lines::refused(Cause::NotRead);
-        return;
-    };
-    if 4096 < p {
-        lines::refused(Cause::TooLarge);
-        return;
+    let mut file = [0u8; 4097];
+    let mut steps = [0u8; 4097];
+    let a = files::load(b"basin.pgm", &mut file);
+    let b = files::load(b"steps.tsv", &mut steps);
+    match judging::both(a, b) {
+        Lengths::Both { picture, list } => answer(&file[..picture], &steps[..list]),
+        Lengths::Refused(cause) => refused(cause),
     }
-    if 4096 < s {
-        lines::refused(Cause::TooLarge);
-        return;
-    }
-    with_picture(&picture[..p], &list[..s]);
 }

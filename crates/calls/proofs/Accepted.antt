@@ -9,11 +9,13 @@ use lib.ListN.{length}
 use borrow.Author.Tests.{leb-true, eqb-true}
 use Rattle.sets.proofs.Tests.{and-left, and-right}
 use Rattle.opening.specs.Residue.{rising}
+use Rattle.causes.specs.Causes.{must}
 use Rattle.causes.specs.Sides.{sides-fit}
+use Rattle.causes.proofs.Refusing.{must-passed}
 pub use Rattle.causes.proofs.Laws.{Bounded, bounded}
 use Rattle.causes.specs.declared.Cause.{Cause}
 use Rattle.causes.specs.declared.Cause.the-variants.{Sides, PictureLength, Attribute, Steps, Workspace, Output}
-use Rattle.calls.specs.Judging.{attribute-good, all-good, steps-good, unless, call-verdict, accepted}
+use Rattle.calls.specs.Judging.{attribute-good, all-good, steps-good, call-verdict, accepted}
 use Rattle.calls.specs.declared.Verdict.{Verdict}
 use Rattle.calls.specs.declared.Verdict.the-variants.{Accepted, Refused}
 
@@ -48,22 +50,24 @@ pub record Passed (width height attribute bytes : ℕ) (thresholds : Bool) (word
   pub six-words-each : words ≡ 6 * (width * height)
   pub outputs-good : outputs ≡ true
 
-unless-accepted : (good : Bool) (cause : Cause) (later : Verdict) → unless good cause later ≡ Accepted
+not-refused : (cause : Cause) → Refused cause ≡ Accepted → ⊥
+not-refused cause e = let clash : _≡_ {A = ℕ} 0 1 = cc in omega arith
+
+test-passed : (good : Bool) (cause : Cause) (later : Verdict) → must Refused good cause later ≡ Accepted
     → (good ≡ true) × (later ≡ Accepted)
-unless-accepted true cause later e = (refl, e)
-unless-accepted false cause later e = let clash : _≡_ {A = ℕ} 0 1 = cc in absurd (omega arith)
+test-passed good cause later e = must-passed Refused good cause later Accepted (not-refused cause) e
 
 pub passed : (width height attribute bytes : ℕ) (thresholds : Bool) (words : ℕ) (outputs : Bool)
     → call-verdict width height attribute bytes thresholds words outputs ≡ Accepted
     → Passed width height attribute bytes thresholds words outputs
 unfolding call-verdict
 passed width height attribute bytes thresholds words outputs verdict =
-    let (sides, e₁) = unless-accepted (sides-fit width height) Sides _ verdict in
-    let (bytes-good, e₂) = unless-accepted (eqb bytes (width * height)) PictureLength _ e₁ in
-    let (attribute-known, e₃) = unless-accepted (attribute-good attribute) Attribute _ e₂ in
-    let (thresholds-good, e₄) = unless-accepted thresholds Steps _ e₃ in
-    let (words-good, e₅) = unless-accepted (eqb words (6 * (width * height))) Workspace _ e₄ in
-    let (outputs-good, e₆) = unless-accepted outputs Output _ e₅ in
+    let (sides, e₁) = test-passed (sides-fit width height) Sides _ verdict in
+    let (bytes-good, e₂) = test-passed (eqb bytes (width * height)) PictureLength _ e₁ in
+    let (attribute-known, e₃) = test-passed (attribute-good attribute) Attribute _ e₂ in
+    let (thresholds-good, e₄) = test-passed thresholds Steps _ e₃ in
+    let (words-good, e₅) = test-passed (eqb words (6 * (width * height))) Workspace _ e₄ in
+    let (outputs-good, e₆) = test-passed outputs Output _ e₅ in
     record {
       sides = sides;
       a-byte-each = eqb-true bytes (width * height) bytes-good;

@@ -4,17 +4,18 @@ use mathlib.Core.Bool.{Bool, true, false, _&&_}
 use mathlib.Core.List.{List, _∷_}
 use mathlib.Core.Path.{_≡_, refl, _∙_, sym}
 use native.Mathlib.Nat.{mul-le-mul}
-use native.Mathlib.Numerals.{add-one}
 use native.Mathlib.Omega.{arith}
 use lib.Dec.{leb, eqb}
 use lib.ListN.{length, getD, drop, drop-of-length-le}
-use lib.Seq.{drop-cons}
 use borrow.Author.Tests.{lt-leb, le-leb, le-ltb, lt-ltb}
+use Rattle.sets.proofs.Tests.{and-false}
 use Rattle.opening.specs.Residue.{rising}
+use Rattle.causes.specs.Causes.{must}
 use Rattle.causes.specs.Sides.{sides-fit}
 use Rattle.causes.specs.declared.Cause.the-variants.{Sides, PictureLength, Attribute, Steps, Workspace, Output}
-use Rattle.calls.specs.Judging.{attribute-good, threshold-good, all-good, steps-good, unless, call-verdict}
-use Rattle.calls.specs.declared.Verdict.the-variants.{Accepted}
+use Rattle.causes.proofs.Lists.{from-here}
+use Rattle.calls.specs.Judging.{attribute-good, threshold-good, all-good, steps-good, call-verdict}
+use Rattle.calls.specs.declared.Verdict.the-variants.{Accepted, Refused}
 
 -- the product of two numbers of 32 bits fits 64
 pub product-fits : (a b : ℕ) → a < 2 ^ 32 → b < 2 ^ 32 → a * b < 2 ^ 64
@@ -28,15 +29,12 @@ product-fits a b ha hb =
 pub verdict-by : (width height attribute bytes : ℕ) (thresholds : Bool) (words : ℕ) (outputs : Bool) {s b a t k o : Bool}
     → sides-fit width height ≡ s → eqb bytes (width * height) ≡ b → attribute-good attribute ≡ a → thresholds ≡ t
     → eqb words (6 * (width * height)) ≡ k → outputs ≡ o
-    → unless s Sides
-    (unless b PictureLength (unless a Attribute (unless t Steps (unless k Workspace (unless o Output Accepted)))))
+    → must Refused s Sides
+    (must Refused b PictureLength
+    (must Refused a Attribute (must Refused t Steps (must Refused k Workspace (must Refused o Output Accepted)))))
     ≡ call-verdict width height attribute bytes thresholds words outputs
 unfolding call-verdict
 verdict-by width height attribute bytes thresholds words outputs es eb ea et ek eo = rw (es, eb, ea, et, ek, eo)
-
-and-false : (b : Bool) → (b && false) ≡ false
-and-false true = refl
-and-false false = refl
 
 -- the thresholds before i are good and rise, the last of them to low: what is left to judge is the rest
 pub record Rising-so-far (steps : List ℕ) (low i : ℕ) : Type 0 where
@@ -73,7 +71,7 @@ module _ (steps : List ℕ) where
 
     module _ (t : ℕ) (here : i < length steps) (is : t ≡ getD steps i 0) where
       cons : drop i steps ≡ t ∷ drop (i + 1) steps
-      cons = rw (is, add-one) (drop-cons steps i 0 here)
+      cons = rw is (from-here steps i here)
 
       pub not-rising : t ≤ low → false ≡ steps-good steps
       unfolding rising

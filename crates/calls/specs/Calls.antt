@@ -9,6 +9,7 @@ use Rattle.grid.specs.Attributes.{attribute}
 use Rattle.opening.specs.Opening.{opened}
 use Rattle.opening.specs.Residue.{residue-at, index-at}
 use Rattle.tree.specs.Tree.{workspace, number-of-nodes}
+use Rattle.causes.specs.Causes.{number-of}
 use Rattle.calls.specs.Judging.{build-verdict, opening-verdict, map-verdict}
 use Rattle.calls.specs.declared.Verdict.{Verdict}
 use Rattle.calls.specs.declared.Verdict.the-variants.{Accepted, Refused}
@@ -61,6 +62,11 @@ built w h a picture lent =
     built-by
     (build-verdict w h a (length picture) (length lent))
     (number-of-nodes (w * h) (edge-neighbours w) (grey picture))
+
+-- the number of an answer: 0 for a number of nodes, else that of the cause
+abbrev pub built-number : Built → ℕ
+built-number (Nodes nodes) = 0
+built-number (Not-built cause) = number-of cause
 
 -- the verdict on an opening call and on a map call, with what they are lent
 abbrev pub opening-judged : ℕ → ℕ → ℕ → ℕ → List ℕ → List ℕ → List ℕ → Verdict

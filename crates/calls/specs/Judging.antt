@@ -1,13 +1,12 @@
 -- When a call on a picture is refused, and for which cause. Only lengths and named numbers decide, never a grey.
 use Prim.Native.Nat.{ℕ, _*_}
-use mathlib.Core.Bool.{Bool, true, false, cond, _&&_, _||_}
+use mathlib.Core.Bool.{Bool, true, false, _&&_, _||_}
 use mathlib.Core.List.{List, [], _∷_}
 use lib.Dec.{leb, eqb}
 use lib.ListN.{length}
 use Rattle.opening.specs.Residue.{rising}
-use Rattle.causes.specs.Causes.{number-of}
+use Rattle.causes.specs.Causes.{number-of, must}
 use Rattle.causes.specs.Sides.{sides-fit}
-use Rattle.causes.specs.declared.Cause.{Cause}
 use Rattle.causes.specs.declared.Cause.the-variants.{Sides, PictureLength, Attribute, Steps, Workspace, Output}
 use Rattle.calls.specs.declared.Verdict.{Verdict}
 use Rattle.calls.specs.declared.Verdict.the-variants.{Accepted, Refused}
@@ -29,20 +28,16 @@ all-good (threshold ∷ rest) = threshold-good threshold && all-good rest
 unfoldable pub steps-good : List ℕ → Bool
 steps-good steps = leb 1 (length steps) && leb (length steps) 256 && (rising 0 steps && all-good steps)
 
--- the refusal with a cause where its test is not passed, and else what the later tests give
-abbrev pub unless : Bool → Cause → Verdict → Verdict
-unless good cause later = cond good later (Refused cause)
-
 -- "Order for library calls on a picture: 1 to 6." The first cause that applies: the picture's bytes and the workspace's words are
 -- counted, thresholds and outputs are judged by the call.
 unfoldable pub call-verdict : ℕ → ℕ → ℕ → ℕ → Bool → ℕ → Bool → Verdict
 call-verdict width height attribute bytes thresholds words outputs =
-    unless (sides-fit width height) Sides
-    (unless (eqb bytes (width * height)) PictureLength
-    (unless (attribute-good attribute) Attribute
-    (unless thresholds Steps
-    (unless (eqb words (6 * (width * height))) Workspace
-    (unless outputs Output
+    must Refused (sides-fit width height) Sides
+    (must Refused (eqb bytes (width * height)) PictureLength
+    (must Refused (attribute-good attribute) Attribute
+    (must Refused thresholds Steps
+    (must Refused (eqb words (6 * (width * height))) Workspace
+    (must Refused outputs Output
     Accepted)))))
 
 -- a building call, by its width, height, attribute, and the lengths of its picture and workspace

@@ -1,5 +1,6 @@
--- The numbers of the causes, as the scope's table "Causes and their numbers" gives them.
+-- The numbers of the causes, as the scope's table "Causes and their numbers" gives them, and tests in order, each with its cause.
 use Prim.Native.Nat.{ℕ}
+use mathlib.Core.Bool.{Bool, cond}
 use Rattle.causes.specs.declared.Cause.{Cause}
 use Rattle.causes.specs.declared.Cause.the-variants.{Sides, PictureLength, Attribute, Steps, Workspace, Output, Buffer, Sign, Header, Maximum, RasterLength, Sample, StepsFile, TooLarge, NotRead}
 
@@ -34,3 +35,7 @@ number-of StepsFile = 13
 number-of TooLarge = 14
 -- program: a file not opened or read
 number-of NotRead = 15
+
+-- the answer where the test holds, else the refusal by the cause
+abbrev pub must : {A : Type 0} → (Cause → A) → Bool → Cause → A → A
+must refuse good cause answer = cond good answer (refuse cause)

@@ -9,10 +9,10 @@ use lib.Dec.{eqb}
 use borrow.Author.Tests.{ne-eqb}
 use Rattle.sets.proofs.Laws.{count-ext}
 use Rattle.connected.specs.Component.{Adjacency}
-use Rattle.flood.specs.Flooding.{Joined, same, back, then, State, darker, unmet, Contains, Links, Finished, Rooted, Opened, Placed, Place, Sound, At, Closed}
+use Rattle.flood.specs.Flooding.{Joined, same, back, then, State, darker, unmet, Contains, Links, Rooted, Opened, Placed, Place, Sound, At, Closed}
 use Rattle.flood.proofs.Finishing.{Empty}
 use Rattle.flood.proofs.Counts.{by-cases, equal-or-not, below-or-not}
-use Rattle.flood.proofs.Meeting.{tail-le}
+use Rattle.flood.proofs.Meeting.{tail-le, finished-kept}
 
 module _ {n : ℕ} {adj : Adjacency} {g : ℕ → ℕ} {s s' : State} (S : Sound n adj g s) (byte : (x : ℕ) → x < n → g x < 256) {l m : ℕ}
     (E : Empty n s l) (lower : m < l) (open-m : s .root m < n) (next : (k : ℕ) → m < k → k < l → n ≤ s .root k)
@@ -112,13 +112,6 @@ module _ {n : ℕ} {adj : Adjacency} {g : ℕ → ℕ} {s s' : State} (S : Sound
             (below-or-not m h)
             (λ dark. rw (only dark k hk ok lk, only dark j hj oj lj) same)
             (λ hm. then (back (anchor hm k hk ok lk)) (anchor hm j hj oj lj))
-
-    keep-finished : (x : ℕ) → Finished n adj g s x → Finished n adj g s' x
-    keep-finished x F =
-        record {
-          met = λ y hy a. keep-met y hy (F .met y hy a);
-          joined = λ y hy a h G L. F .joined y hy a h G (weaker h G L);
-        }
 
     new-room : (k : ℕ) → k < 256 → s' .tail k + unmet n g (s' .par) k ≡ darker n g (suc k)
     new-room k hk =
@@ -283,7 +276,7 @@ module _ {n : ℕ} {adj : Adjacency} {g : ℕ → ℕ} {s s' : State} (S : Sound
           waiting = new-waiting;
           finished = λ k i hk li hi.
               let h : i < s .head k = rw (C .head k) at hi in
-              rw (keep-ord k i hk (omega (arith, S .high k hk))) (keep-finished (s .ord i) (S .finished k i hk li h));
+              rw (keep-ord k i hk (omega (arith, S .high k hk))) (finished-kept keep-met weaker (s .ord i) (S .finished k i hk li h));
           rooted = new-rooted;
           own = new-own;
           links = new-links;

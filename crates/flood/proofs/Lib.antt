@@ -5,6 +5,7 @@ pub mod Closing
 pub mod Beginning
 pub mod Ending
 pub mod Tables
+pub mod Marks
 pub mod Parts
 pub mod Visits
 pub mod Sides

@@ -7,14 +7,11 @@ use mathlib.Core.Path.{_≡_, refl, sym, ap, ap₂, _∙_}
 use native.Mathlib.Omega.{arith}
 use lib.Dec.{eqb, ltb}
 use borrow.Author.Tests.{eq-eqb, ne-eqb}
+use Rattle.sets.proofs.Tests.{and-false}
 use Rattle.sets.proofs.Laws.{count-ext, count-le}
 use Rattle.connected.specs.Component.{Adjacency}
 use Rattle.flood.specs.Flooding.{Joined, same, back, then, State, darker, unmet, Contains, Links, Finished, Rooted, Opened, Placed, Place, Sound, At, Pushed}
 use Rattle.flood.proofs.Counts.{by-cases, equal-or-not, below-or-not, count-without, count-some, darker-mono}
-
-and-false : (a b : Bool) → b ≡ false → a && b ≡ false
-and-false true b e = e
-and-false false b e = refl
 
 false-and : (a b : Bool) → a ≡ false → a && b ≡ false
 false-and a b e = rw e refl
@@ -27,6 +24,16 @@ tail-le {n} {g = g} S k h = omega (arith, S .room k h, count-le n (λ (q : ℕ).
 abbrev pub Reaches : ℕ → Adjacency → (ℕ → ℕ) → State → ℕ → ℕ → Type 0
 Reaches n adj g s l q =
     (h : ℕ) (G : Adjacency) → Contains n adj g h G → h ≤ l → (k : ℕ) → k < 256 → s .root k < n → h ≤ k → Joined G q (s .root k)
+
+-- a finished pixel stays so, where what was met stays met and no link is lost
+pub finished-kept :
+    {n : ℕ} {adj : Adjacency} {g : ℕ → ℕ} {s s' : State} → ((x : ℕ) → x < n → s .par x < n → s' .par x < n)
+    → ((h : ℕ) (G : Adjacency) → Links n g s' h G → Links n g s h G) → (x : ℕ) → Finished n adj g s x → Finished n adj g s' x
+finished-kept met weaker x F =
+    record {
+      met = λ y hy a. met y hy (F .met y hy a);
+      joined = λ y hy a h G L. F .joined y hy a h G (weaker h G L);
+    }
 
 -- there is room for a pixel that is not met
 pub tail-lt :
@@ -113,7 +120,7 @@ module _ {n : ℕ} {adj : Adjacency} {g : ℕ → ℕ} {s s' : State} (S : Sound
         here : (x : ℕ) → x ≡ q → eqb (s' .par x) n && eqb (g x) k ≡ eqb (s .par x) n && eqb (g x) k
         here x e =
             let dark : eqb (g x) k ≡ false = ne-eqb (g x) k (λ z. ne (sym z ∙ ap g e ∙ grey-q)) in
-            and-false (eqb (s' .par x) n) (eqb (g x) k) dark ∙ sym (and-false (eqb (s .par x) n) (eqb (g x) k) dark)
+            rw dark (and-false (eqb (s' .par x) n) ∙ sym (and-false (eqb (s .par x) n)))
 
         there : (x : ℕ) → x < n → (x ≡ q → ⊥) → eqb (s' .par x) n && eqb (g x) k ≡ eqb (s .par x) n && eqb (g x) k
         there x hx nx = ap (λ (y : ℕ). eqb y n && eqb (g x) k) (P .par .there x hx nx)
@@ -158,13 +165,6 @@ module _ {n : ℕ} {adj : Adjacency} {g : ℕ → ℕ} {s s' : State} (S : Sound
           across = λ k m hk hm ok om lk lm.
               rw (keep-root k hk ok, keep-root m hm om) at
               (L .across k m hk hm (rw (keep-root k hk ok) ok) (rw (keep-root m hm om) om) lk lm);
-        }
-
-    keep-finished : (x : ℕ) → Finished n adj g s x → Finished n adj g s' x
-    keep-finished x F =
-        record {
-          met = λ y hy a. keep-met y hy (F .met y hy a);
-          joined = λ y hy a h G L. F .joined y hy a h G (weaker h G L);
         }
 
     -- the fields one by one
@@ -282,7 +282,7 @@ module _ {n : ℕ} {adj : Adjacency} {g : ℕ → ℕ} {s s' : State} (S : Sound
         let h : i < s .head k = rw (P .head k) at hi-i in
         rw
         (keep-ord k i hk lo-i (omega (arith, S .high k hk)))
-        (keep-finished (s .ord i) (S .finished k i hk lo-i h))
+        (finished-kept keep-met weaker (s .ord i) (S .finished k i hk lo-i h))
 
     new-rooted : (x : ℕ) → x < n → s' .par x < n → Rooted n g (s' .par) x
     new-rooted x hx h = ⊎-elim here there (was-met x hx h)

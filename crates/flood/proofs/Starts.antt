@@ -1,15 +1,19 @@
 -- The flood's start on the lists: the levels counted, the parents reset, and the first pixel in its queue.
-use Prim.Native.Nat.{ℕ, _-_, _≤_, _<_}
+use Prim.Native.Nat.{ℕ, suc, _+_, _-_, _/_, _%_, _^_, _≤_, _<_}
 use mathlib.Core.List.{List, _++_}
-use mathlib.Core.Path.{_≡_, _∙_}
+use mathlib.Core.Path.{_≡_, refl, _∙_}
+use native.Mathlib.Nat.{zero-div}
 use native.Mathlib.Omega.{arith}
 use lib.Dec.{ltb}
-use lib.ListN.{getD, length, take, drop, replicate, length-append, length-take, length-drop, length-replicate, getD-replicate, List·getD-append}
+use lib.ListN.{getD, length, set, length-set, take, drop, replicate, length-append, length-take, length-drop, length-replicate, getD-replicate, List·getD-append}
+use lib.Seq.{getD-set-same, getD-set-other}
 use Rattle.sets.proofs.Laws.{count-le}
 use Rattle.grid.specs.Neighbours.{edge-neighbours}
 use Rattle.flood.specs.Flooding.{state-of, darker}
 use Rattle.flood.specs.Levels.{grey, total, Counted, Summed}
+use Rattle.flood.specs.Marks.{Marked}
 use Rattle.flood.specs.Calls.{Sized, Fitting, Placing, Ready, Floodable}
+use Rattle.flood.proofs.Counts.{by-cases, equal-or-not}
 use Rattle.flood.proofs.Meeting.{tail-lt}
 use Rattle.flood.proofs.Beginning.{Untouched, begins, first-sound, first-at}
 use Rattle.flood.proofs.Tables.{total-darker}
@@ -43,6 +47,48 @@ module _ {n : ℕ} {ws : List ℕ} (part : List ℕ) (size : Sized n ws) (kept :
   reset-unmet all q h =
       List·getD-append part _ 0 q (omega (arith, part-length)) ∙ all q (omega (arith, part-length))
 
+-- the table with no level open: n for each root, and an empty set
+abbrev pub none-open : ℕ → List ℕ
+none-open n = set (set (set (set (replicate 260 n) 256 0) 257 0) 258 0) 259 0
+
+-- the roots are n, and the first i words of the set are 0
+record Emptied (n i : ℕ) (xs : List ℕ) : Type 0 where
+  wide : length xs ≡ 260
+  root : (k : ℕ) → k < 256 → getD xs k 0 ≡ n
+  word : (j : ℕ) → j < i → getD xs (256 + j) 0 ≡ 0
+
+all-roots : (n : ℕ) → Emptied n 0 (replicate 260 n)
+all-roots n =
+    record {
+      wide = length-replicate 260 n;
+      root = λ k h. getD-replicate 260 k n 0 (omega arith);
+      word = λ j h. absurd (omega arith);
+    }
+
+one-more : {n : ℕ} {xs : List ℕ} (i : ℕ) → i < 4 → Emptied n i xs → Emptied n (suc i) (set xs (256 + i) 0)
+one-more {n} {xs} i h E =
+    record {
+      wide = length-set xs (256 + i) 0 ∙ E .wide;
+      root = λ k hk. getD-set-other xs (256 + i) k 0 0 (λ e. omega arith) ∙ E .root k hk;
+      word = λ j hj.
+          by-cases
+          (equal-or-not j i)
+          (λ e. rw e (getD-set-same xs (256 + i) 0 0 (omega (arith, E .wide))))
+          (λ ne. getD-set-other xs (256 + i) (256 + j) 0 0 (λ e. ne (omega arith)) ∙ E .word j (omega arith));
+    }
+
+emptied : (n : ℕ) → Emptied n 4 (none-open n)
+emptied n =
+    one-more 3 (omega arith)
+    (one-more 2 (omega arith) (one-more 1 (omega arith) (one-more 0 (omega arith) (all-roots n))))
+
+none-marked : (n : ℕ) → Marked n (none-open n)
+none-marked n =
+    record {
+      open-set = λ k h o. absurd (o (emptied n .root k h));
+      closed-clear = λ k h e. rw (emptied n .word (k / 64) (omega arith), zero-div (2 ^ (k % 64))) refl;
+    }
+
 module _ {w : ℕ} {picture ws ws₁ counts starts : List ℕ} (F : Floodable w picture ws) (bytes : (x : ℕ) → grey picture x < 256)
     (C : Counted (length picture) picture counts) (T : Summed counts starts) (size : Sized (length picture) ws₁)
     (unmet-all : (q : ℕ) → q < length picture → getD ws₁ q 0 ≡ length picture)
@@ -54,16 +100,16 @@ module _ {w : ℕ} {picture ws ws₁ counts starts : List ℕ} (F : Floodable w 
         Untouched
         (length picture)
         (grey picture)
-        (state-of (length picture) ws₁ starts starts (replicate 256 (length picture)))
+        (state-of (length picture) ws₁ starts starts (none-open (length picture)))
     untouched =
         record {
           unmet-all = unmet-all;
-          closed-all = λ k h. getD-replicate 256 k (length picture) 0 h;
+          closed-all = emptied (length picture) .root;
           heads = at-start;
           tails = at-start;
         }
 
-    pub first-fits : Fitting (length picture) 0 (grey picture 0) ws₁ starts (replicate 256 (length picture))
+    pub first-fits : Fitting (length picture) 0 (grey picture 0) ws₁ starts (none-open (length picture))
     first-fits =
         record {
           sized = size;
@@ -73,12 +119,13 @@ module _ {w : ℕ} {picture ws ws₁ counts starts : List ℕ} (F : Floodable w 
               tail-lt (begins untouched {adj = edge-neighbours w}) (bytes 0) (F .some) (unmet-all 0 (F .some));
           root = omega (arith, untouched .closed-all (grey picture 0) (bytes 0));
           wide-tails = T .wide;
-          wide-roots = length-replicate 256 (length picture);
+          wide-roots = emptied (length picture) .wide;
+          marks = none-marked (length picture);
         }
 
     pub first-ready :
         {ws₂ tails roots : List ℕ}
-        → Placing (length picture) 0 (grey picture 0) ws₁ starts (replicate 256 (length picture)) ws₂ tails roots
+        → Placing (length picture) 0 (grey picture 0) ws₁ starts (none-open (length picture)) ws₂ tails roots
         → length ws₂ ≡ length ws₁ → Ready w picture ws₂ starts tails roots (grey picture 0)
     first-ready P same-length =
         record {
@@ -89,6 +136,7 @@ module _ {w : ℕ} {picture ws ws₁ counts starts : List ℕ} (F : Floodable w 
           wide-heads = T .wide;
           wide-tails = P .wide-tails;
           wide-roots = P .wide-roots;
+          marks = P .marks;
           sound = first-sound untouched (λ x h. bytes x) (F .some) (P .step starts);
           at = first-at untouched (λ x h. bytes x) (F .some) (P .step starts);
         }

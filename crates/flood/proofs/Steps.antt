@@ -133,6 +133,7 @@ module _ {w : ℕ} {picture ws heads tails roots ws' tails' roots' : List ℕ} {
                   wide-heads = length-set heads l _ ∙ R .wide-heads;
                   wide-tails = R .wide-tails;
                   wide-roots = R .wide-roots;
+                  marks = R .marks;
                   sound = sound';
                   at = finished-at (R .sound) bytes (edge-symmetric w) (R .at) here all-met advance ne;
                 });
@@ -145,6 +146,7 @@ module _ {w : ℕ} {picture ws heads tails roots ws' tails' roots' : List ℕ} {
           record {
             sized = R .sized;
             wide-roots = R .wide-roots;
+            marks = R .marks;
             level = R .at .level;
             open-here = R .at .open-here;
             within = R .sound .roots;
@@ -178,6 +180,7 @@ module _ {w : ℕ} {picture ws heads tails roots ws' tails' roots' : List ℕ} {
               wide-heads = length-set heads l _ ∙ R .wide-heads;
               wide-tails = R .wide-tails;
               wide-roots = B .wide-roots;
+              marks = B .marks;
               sound = closed-sound sound' bytes emptied (N .lower) open-m next step;
               at = closed-at sound' bytes emptied (N .lower) open-m next step;
             }

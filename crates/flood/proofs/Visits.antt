@@ -109,6 +109,7 @@ module _ {w : ℕ} {picture ws heads tails roots : List ℕ} where
           root = R .sound .roots (grey picture q) (R .bytes q);
           wide-tails = R .wide-tails;
           wide-roots = R .wide-roots;
+          marks = R .marks;
         }
 
     pub queued :
@@ -142,6 +143,7 @@ module _ {w : ℕ} {picture ws heads tails roots : List ℕ} where
                 wide-heads = R .wide-heads;
                 wide-tails = P .wide-tails;
                 wide-roots = P .wide-roots;
+                marks = P .marks;
                 sound =
                     met-sound (R .sound) (R .bytes q) (U .within) refl new step (λ x h. R .bytes x)
                     (reaches (R .sound) A refl (U .within) (U .next));

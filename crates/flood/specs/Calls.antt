@@ -10,6 +10,7 @@ use Rattle.sets.specs.Sets.{Positions}
 use Rattle.grid.specs.Neighbours.{next-in-row, next-in-column, edge-neighbours}
 use Rattle.flood.specs.Flooding.{parent-of, order-of, state-of, Pushed, Closed, Sound, At, Flooded}
 use Rattle.flood.specs.Levels.{grey, total}
+use Rattle.flood.specs.Marks.{Marked}
 
 -- the root of an open level, or q, which opens it
 abbrev pub root-or : ℕ → ℕ → ℕ → ℕ
@@ -28,12 +29,14 @@ pub record Fitting (n q l : ℕ) (ws tails roots : List ℕ) : Type 0 where
   pub free : getD tails l 0 < n
   pub root : getD roots l 0 ≤ n
   pub wide-tails : length tails ≡ 256
-  pub wide-roots : length roots ≡ 256
+  pub wide-roots : length roots ≡ 260
+  pub marks : Marked n roots
 
 -- q stands at the end of the run of level l, whatever the heads are
 pub record Placing (n q l : ℕ) (ws tails roots ws' tails' roots' : List ℕ) : Type 0 where
   pub wide-tails : length tails' ≡ 256
-  pub wide-roots : length roots' ≡ 256
+  pub wide-roots : length roots' ≡ 260
+  pub marks : Marked n roots'
   pub step :
       (heads : List ℕ)
       → Pushed n l q (root-or (getD roots l 0) n q) (state-of n ws heads tails roots) (state-of n ws' heads tails' roots')
@@ -50,7 +53,8 @@ pub record Ready (w : ℕ) (picture ws heads tails roots : List ℕ) (c : ℕ) :
   pub sized : Sized (length picture) ws
   pub wide-heads : length heads ≡ 256
   pub wide-tails : length tails ≡ 256
-  pub wide-roots : length roots ≡ 256
+  pub wide-roots : length roots ≡ 260
+  pub marks : Marked (length picture) roots
   pub sound :
       Sound (length picture) (edge-neighbours w) (grey picture) (state-of (length picture) ws heads tails roots)
   pub at : At (length picture) (state-of (length picture) ws heads tails roots) c
@@ -93,7 +97,8 @@ pub record NextOpen (n : ℕ) (roots : List ℕ) (l m : ℕ) : Type 0 where
 -- level l is open, and its node can be closed
 pub record Closable (n : ℕ) (ws roots : List ℕ) (l : ℕ) : Type 0 where
   pub sized : Sized n ws
-  pub wide-roots : length roots ≡ 256
+  pub wide-roots : length roots ≡ 260
+  pub marks : Marked n roots
   pub level : l < 256
   pub open-here : getD roots l 0 < n
   pub within : (k : ℕ) → k < 256 → getD roots k 0 ≤ n
@@ -101,7 +106,8 @@ pub record Closable (n : ℕ) (ws roots : List ℕ) (l : ℕ) : Type 0 where
 -- the node of level l is closed below that of level m, whatever the heads and the tails are
 pub record ClosedBelow (n : ℕ) (ws roots ws' roots' : List ℕ) (l m : ℕ) : Type 0 where
   pub next-open : NextOpen n roots l m
-  pub wide-roots : length roots' ≡ 256
+  pub wide-roots : length roots' ≡ 260
+  pub marks : Marked n roots'
   pub step :
       (heads tails : List ℕ) → Closed n l m (state-of n ws heads tails roots) (state-of n ws' heads tails roots')
 

@@ -1,3 +1,4 @@
 pub mod Flooding
 pub mod Levels
+pub mod Marks
 pub mod Calls

@@ -3,6 +3,8 @@
 mod levels;
 mod queues;
 
+pub use levels::fill;
+pub use levels::run_starts;
 ghost use Rattle.flood.specs.Calls.{Floodable, FloodedBy};
 
 // Floods a picture of whole rows: on return each parent word is the root of the pixel's node, or of its parent's for a root, and the
@@ -15,8 +17,13 @@ pub fn flood(picture: &[u8], width: usize, ws: &mut [u32])
     let counts = levels::count_levels(picture);
     let mut heads = levels::run_starts(counts);
     let mut tails = heads;
-    let mut roots: [usize; 256] = [n; 256];
-    levels::reset(&mut ws[0..n], n as u32);
+    // no level is open: n for each root, and an empty set
+    let mut roots: [usize; 260] = [n; 260];
+    roots[256] = 0;
+    roots[257] = 0;
+    roots[258] = 0;
+    roots[259] = 0;
+    levels::fill(&mut ws[0..n], n as u32);
     let first = picture[0] as usize;
     queues::push(n, 0, first, ws, &mut tails, &mut roots);
     queues::run(

@@ -1,10 +1,12 @@
-// The queues of the levels: each level has a run of part 3, a head and a tail in it, and the root of its open node.
+// The queues of the levels: each level has a run of part 3, a head and a tail in it, and the root of its open node. The four words after
+// the roots are the set of the open levels, one bit a level.
 ghost use mathlib.Core.Path.{_≡_};
-ghost use Prim.Native.Nat.{ℕ, _%_, _≤_};
+ghost use Prim.Native.Nat.{ℕ, _%_, _<_};
 ghost use mathlib.Core.Logic.{_⊎_};
 ghost use lib.Dec.{eqb};
 ghost use lib.ListN.{length};
 ghost use Rattle.grid.specs.Neighbours.{next-in-row, next-in-column};
+ghost use Rattle.flood.specs.Marks.{Marked, Highest};
 ghost use Rattle.flood.specs.Calls.{root-or, Fitting, Placing, Standing, Visiting, Visited, NoneOpen, NextOpen, Closable, ClosedBelow, head-pixel, around, Ready, Stepped, FloodedBy};
 
 fn root_or(root: usize, n: usize, q: usize) -> usize
@@ -23,7 +25,7 @@ pub fn push(
     l: usize,
     ws: &mut [u32],
     tails: &mut [usize; 256],
-    roots: &mut [usize; 256],
+    roots: &mut [usize; 260],
 )
     requires { ⌜ Fitting n q l (now ws) (now tails) (now roots) ⌝ }
     ensures { λ _. ⌜ Placing n q l (now (ws .entry)) (now (tails .entry)) (now (roots .entry)) (now (ws .exit)) (now (tails .exit)) (now (roots .exit)) ⌝ }
@@ -31,6 +33,7 @@ pub fn push(
     let r = root_or(roots[l], n, q);
     let t = tails[l];
     roots[l] = r;
+    roots[256 + l / 64] = roots[256 + l / 64] | (1 << (l % 64));
     tails[l] = t + 1;
     ws[q] = r as u32;
     ws[2 * n + t] = q as u32;
@@ -46,7 +49,7 @@ fn visit(
     ws: &mut [u32],
     heads: &[usize; 256],
     tails: &mut [usize; 256],
-    roots: &mut [usize; 256],
+    roots: &mut [usize; 260],
 ) -> usize
     requires { ⌜ Visiting width (now picture) (now ws) (now heads) (now tails) (now roots) level q ⌝ }
     ensures { λ r. ⌜ Visited width (now (picture .entry)) (now (ws .entry)) (now (heads .entry)) (now (tails .entry)) (now (roots .entry)) (now (ws .exit)) (now (tails .exit)) (now (roots .exit)) level r (λ (x : ℕ). eqb x q) ⌝ }
@@ -72,7 +75,7 @@ fn visit_up(
     ws: &mut [u32],
     heads: &[usize; 256],
     tails: &mut [usize; 256],
-    roots: &mut [usize; 256],
+    roots: &mut [usize; 260],
 ) -> usize
     requires { ⌜ Standing width (now picture) (now ws) (now heads) (now tails) (now roots) level p ⌝ }
     ensures { λ r. ⌜ Visited width (now (picture .entry)) (now (ws .entry)) (now (heads .entry)) (now (tails .entry)) (now (roots .entry)) (now (ws .exit)) (now (tails .exit)) (now (roots .exit)) level r (λ (x : ℕ). next-in-column width x p) ⌝ }
@@ -92,7 +95,7 @@ fn visit_down(
     ws: &mut [u32],
     heads: &[usize; 256],
     tails: &mut [usize; 256],
-    roots: &mut [usize; 256],
+    roots: &mut [usize; 260],
 ) -> usize
     requires { ⌜ Standing width (now picture) (now ws) (now heads) (now tails) (now roots) level p ⌝ }
     ensures { λ r. ⌜ Visited width (now (picture .entry)) (now (ws .entry)) (now (heads .entry)) (now (tails .entry)) (now (roots .entry)) (now (ws .exit)) (now (tails .exit)) (now (roots .exit)) level r (λ (x : ℕ). next-in-column width p x) ⌝ }
@@ -113,7 +116,7 @@ fn visit_left(
     ws: &mut [u32],
     heads: &[usize; 256],
     tails: &mut [usize; 256],
-    roots: &mut [usize; 256],
+    roots: &mut [usize; 260],
 ) -> usize
     requires { ⌜ Standing width (now picture) (now ws) (now heads) (now tails) (now roots) level p ⌝ }
     requires { ⌜ column ≡ p % width ⌝ }
@@ -135,7 +138,7 @@ fn visit_right(
     ws: &mut [u32],
     heads: &[usize; 256],
     tails: &mut [usize; 256],
-    roots: &mut [usize; 256],
+    roots: &mut [usize; 260],
 ) -> usize
     requires { ⌜ Standing width (now picture) (now ws) (now heads) (now tails) (now roots) level p ⌝ }
     requires { ⌜ column ≡ p % width ⌝ }
@@ -147,16 +150,30 @@ fn visit_right(
     visit(picture, width, p + 1, level, ws, heads, tails, roots)
 }
 
-// The brightest open level below the level named, 256 where there is none.
-fn open_below(level: usize, n: usize, roots: &[usize; 256]) -> usize
-    requires { ⌜ level ≤ 256 ⌝ }
+// The place of the highest set bit of a word.
+fn highest(word: usize) -> usize
+    requires { ⌜ 0 < word ⌝ }
+    ensures { λ r. ⌜ Highest word r ⌝ }
+{
+    63 - usize::leading_zeros(word) as usize
+}
+
+// The brightest open level below the level named, 256 where there is none: the bits below it in its own word are looked at, then the
+// darker words.
+fn open_below(level: usize, n: usize, roots: &[usize; 260]) -> usize
+    requires { ⌜ level < 256 ⌝ }
+    requires { ⌜ Marked n (now roots) ⌝ }
     ensures { λ r. ⌜ (NextOpen n (now (roots .entry)) level r ⊎ ((r ≡ 256) × NoneOpen n (now (roots .entry)) level)) ⌝ }
 {
-    let mut l = level;
-    while l > 0 {
-        l -= 1;
-        if roots[l] != n {
-            return l;
+    let mut i = level / 64;
+    let own = roots[256 + i] % (1 << (level % 64));
+    if own != 0 {
+        return 64 * i + highest(own);
+    }
+    while i > 0 {
+        i -= 1;
+        if roots[256 + i] != 0 {
+            return 64 * i + highest(roots[256 + i]);
         }
     }
     256
@@ -164,13 +181,14 @@ fn open_below(level: usize, n: usize, roots: &[usize; 256]) -> usize
 
 // Closes the node of the level named: its root's parent becomes the root of the brightest open level below. The answer is that level,
 // 256 where there is none and the root stays its own parent.
-fn close(n: usize, level: usize, ws: &mut [u32], roots: &mut [usize; 256]) -> usize
+fn close(n: usize, level: usize, ws: &mut [u32], roots: &mut [usize; 260]) -> usize
     requires { ⌜ Closable n (now ws) (now roots) level ⌝ }
     ensures { λ r. ⌜ (ClosedBelow n (now (ws .entry)) (now (roots .entry)) (now (ws .exit)) (now (roots .exit)) level r ⊎ ((r ≡ 256) × NoneOpen n (now (roots .entry)) level × (now (ws .exit) ≡ now (ws .entry)))) ⌝ }
 {
     let m = open_below(level, n, roots);
     let r = roots[level];
     roots[level] = n;
+    roots[256 + level / 64] = roots[256 + level / 64] - (1 << (level % 64));
     if m == 256 {
         return 256;
     }
@@ -186,7 +204,7 @@ fn visit_around(
     ws: &mut [u32],
     heads: &[usize; 256],
     tails: &mut [usize; 256],
-    roots: &mut [usize; 256],
+    roots: &mut [usize; 260],
 ) -> usize
     requires { ⌜ Ready width (now picture) (now ws) (now heads) (now tails) (now roots) level ⌝ }
     ensures { λ r. ⌜ Visited width (now (picture .entry)) (now (ws .entry)) (now (heads .entry)) (now (tails .entry)) (now (roots .entry)) (now (ws .exit)) (now (tails .exit)) (now (roots .exit)) level r (λ (x : ℕ). around width (head-pixel (length (now (picture .entry))) (now (ws .entry)) (now (heads .entry)) level) x) ⌝ }
@@ -218,7 +236,7 @@ fn step(
     ws: &mut [u32],
     heads: &mut [usize; 256],
     tails: &mut [usize; 256],
-    roots: &mut [usize; 256],
+    roots: &mut [usize; 260],
 ) -> usize
     requires { ⌜ Ready width (now picture) (now ws) (now heads) (now tails) (now roots) level ⌝ }
     ensures { λ r. ⌜ Stepped width (now (picture .entry)) (now (heads .entry)) (now (tails .entry)) (now (ws .exit)) (now (heads .exit)) (now (tails .exit)) (now (roots .exit)) r ⌝ }
@@ -242,7 +260,7 @@ pub fn run(
     ws: &mut [u32],
     heads: &mut [usize; 256],
     tails: &mut [usize; 256],
-    roots: &mut [usize; 256],
+    roots: &mut [usize; 260],
 )
     requires { ⌜ Ready width (now picture) (now ws) (now heads) (now tails) (now roots) first ⌝ }
     ensures { λ _. ⌜ FloodedBy width (now (picture .entry)) (now (ws .exit)) ⌝ }

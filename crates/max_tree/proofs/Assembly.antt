@@ -1,19 +1,21 @@
 -- The passes one after the other: what each leaves is what the next asks, and at the end the words are those of the record.
 -- Assumes nothing.
 use Prim.Native.Nat.{ℕ, _+_, _*_, _-_, _≤_, _<_}
-use mathlib.Core.Bool.{true, cond}
+use mathlib.Core.Bool.{Bool, true, cond}
 use mathlib.Core.List.{List, _++_}
 use mathlib.Core.Logic.{⊎-elim}
-use mathlib.Core.Path.{_≡_, sym, ap, subst, _∙_}
+use mathlib.Core.Path.{_≡_, refl, sym, ap, subst, _∙_}
 use native.Mathlib.Nat.{le-refl, mod-lt, mul-pos, mul-comm, mul-mod-right, div-lt-iff-lt-mul}
 use native.Mathlib.Omega.{arith}
-use lib.Dec.{eqb}
+use lib.Dec.{eqb, ltb}
 use lib.ListN.{getD, length, take, length-append, List·getD-append}
 use lib.Seq.{length-take-le, getD-take, ext-getD}
+use borrow.Author.Tests.{eqb-true}
 use Rattle.sets.specs.Sets.{member, table}
-use Rattle.sets.proofs.Tests.{le-or-lt}
-use Rattle.sets.proofs.Laws.{length-table, table-at, count-le}
+use Rattle.sets.proofs.Tests.{decided, le-or-lt}
+use Rattle.sets.proofs.Laws.{length-table, table-at, count-le, count-ext}
 use Rattle.sets.proofs.Gather.{gather-ext}
+use Rattle.connected.specs.Component.{Adjacency, Symmetric}
 use Rattle.opening.specs.Node.{node}
 use Rattle.opening.proofs.Levels.{cond-case}
 use Rattle.opening.proofs.Components.{level-self}
@@ -22,22 +24,24 @@ use Rattle.grid.specs.Attributes.{side, attribute}
 use Rattle.grid.proofs.Attributes.{edge-symmetric}
 use Rattle.tree.specs.Forest.{Forest}
 use Rattle.tree.specs.Tree.{parents, attributes, parent-word, attribute-word, is-representative}
-use Rattle.tree.proofs.Forest.{node-root-is}
 use Rattle.tree.proofs.Record.{representative-lowest, parent-word-lowest, number-lowest}
+use Rattle.tree.proofs.Relabel.{relabel-root, relabel-forest, relabel-owned}
 use Rattle.calls.proofs.Accepted.{Bounded, bounded}
-use Rattle.flood.specs.Levels.{grey}
+use Rattle.flood.specs.Levels.{grey, total, Summed}
 use Rattle.flood.specs.Calls.{Sized, Floodable, FloodedBy}
 use Rattle.max_tree.specs.Accumulators.{nothing, single, combined, measured, gathered}
 use Rattle.max_tree.specs.Branches.{owned, branch}
-use Rattle.flood.specs.Flooding.{parent-of, order-of}
-use Rattle.max_tree.specs.Passes.{first-of, held-of, root-of, lowest-of, lowest-own-pixel, Blank, Owned, Order, Own-held, Pourable, Poured, Recordable, Recorded}
+use Rattle.flood.specs.Flooding.{parent-of, order-of, darker}
+use Rattle.flood.proofs.Tables.{total-below}
+use Rattle.max_tree.specs.Listing.{Listed}
+use Rattle.max_tree.specs.Passes.{word-of, first-of, held-of, root-of, lowest-of, lowest-own-pixel, node-level, Blanked, Blank, Owned, roots, Own-held, Pourable, Poured, Recordable, Recorded}
 use Rattle.max_tree.specs.Building.{Buildable, Ordered}
 use Rattle.max_tree.proofs.Accumulators.{single-small, gathered-ends, measured-attribute}
 use Rattle.max_tree.proofs.Branches.{node-branch}
 use Rattle.max_tree.proofs.Stores.{root-same, root-within}
 use Rattle.max_tree.proofs.FloodForest.{flooded-forest}
-use Rattle.max_tree.proofs.Parts.{past, Filled}
-use Rattle.max_tree.proofs.Agreeing.{forest-same, order-same, lowest-same}
+use Rattle.max_tree.proofs.Parts.{past}
+use Rattle.max_tree.proofs.Agreeing.{forest-same, listed-same, lowest-same, node-level-same}
 
 -- a list that holds two tables, one after the other
 two-tables : (n : ℕ) (f g : ℕ → ℕ) (xs : List ℕ) → 2 * n ≤ length xs → ((q : ℕ) → q < n → getD xs q 0 ≡ f q) → ((q : ℕ) → q < n → getD xs (n + q) 0 ≡ g q) → take (2 * n) xs ≡ table n f ++ table n g
@@ -66,6 +70,9 @@ module _ (w h : ℕ) (picture ws : List ℕ) (B : Buildable w h picture ws) wher
   sized : Sized (length picture) ws
   sized = record { words = omega (arith, B .bytes, B .words); small = omega (arith, B .bytes, fits .small) }
 
+  pub blank-sized : (ws' : List ℕ) → length ws' ≡ length ws → Sized (w * h) ws'
+  blank-sized ws' long = record { words = long ∙ B .words; small = fits .small }
+
   pub flood-asked : Floodable w picture ws
   flood-asked =
       record {
@@ -85,192 +92,207 @@ module _ (w h : ℕ) (picture ws : List ℕ) (B : Buildable w h picture ws) wher
       (λ e. omega (arith, div-lt-iff-lt-mul {k = w} {x = q} {y = h} (fits .wide) .1 (omega (arith, B .bytes, mul-comm w h)), fits .not-higher))
       (λ e. omega (arith, mod-lt q (fits .wide), fits .not-wider))
 
-  -- after the flood and the filling of part 5
-  module _ (a : ℕ) (ws₁ ws₂ : List ℕ) (long : length ws₁ ≡ length ws) (left : FloodedBy w picture ws₁) (F : Filled (4 * (w * h)) (5 * (w * h)) (nothing a) ws₁ ws₂) where
-    flooded : Forest (length picture) (edge-neighbours w) (grey picture) (parent-of ws₁)
-    flooded = flooded-forest (length picture) (edge-neighbours w) (edge-symmetric w) (grey picture) (parent-of ws₁) (order-of (length picture) ws₁) left
+  -- after the flood, and the blanking of parts 2, 4 and 5
+  module _ (a : ℕ) (ws₁ ws₃ : List ℕ) (long : length ws₁ ≡ length ws) (left : FloodedBy w picture ws₁) (F : Blanked (w * h) a ws₁ ws₃) (bytes : (x : ℕ) → grey picture x < 256) where
+    abbrev n : ℕ
+    n = length picture
 
-    kept₂ : (k : ℕ) → k < 4 * length picture → getD ws₂ k 0 ≡ getD ws₁ k 0
-    kept₂ k b = F .before k (omega (arith, B .bytes))
+    abbrev adj : Adjacency
+    adj = edge-neighbours w
 
-    pub blank-asked : Blank w a picture ws₂
+    symm : Symmetric adj
+    symm = edge-symmetric w
+
+    abbrev g : ℕ → ℕ
+    g = grey picture
+
+    flooded : Forest n adj g (parent-of ws₁)
+    flooded = flooded-forest n adj symm g (parent-of ws₁) (order-of n ws₁) left
+
+    -- the same of as many pixels as the picture has bytes
+    blank₃ : Blanked n a ws₁ ws₃
+    blank₃ = subst (λ (k : ℕ). Blanked k a ws₁ ws₃) (sym (B .bytes)) F
+
+    words₃ : length ws₃ ≡ 6 * n
+    words₃ = F .words ∙ long ∙ sized .words
+
+    pub blank-asked : Blank w a picture ws₃
     blank-asked =
         record {
-          sized = record { words = F .words ∙ long ∙ sized .words; small = sized .small };
+          sized = record { words = words₃; small = sized .small };
+          bytes = bytes;
           columns = fits .wide;
           short = short a;
-          within = λ q b. rw (kept₂ q (omega arith)) (flooded .within q b);
-          blank = λ r b. F .inside (4 * length picture + r) (omega (arith, B .bytes)) (omega (arith, B .bytes));
+          within = λ q b. rw (blank₃ .parents q b) (flooded .within q b);
+          unnoted = blank₃ .unnoted;
+          blank = blank₃ .blank;
         }
 
     -- after the pass over the own pixels
-    module _ (ws₃ : List ℕ) (O : Owned w a picture ws₂ ws₃) where
-      same-own : (q : ℕ) → q < length picture → parent-of ws₃ q ≡ parent-of ws₂ q
+    module _ (ws₄ counts : List ℕ) (O : Owned w a picture ws₃ ws₄ counts) where
+      same-own : (q : ℕ) → q < n → parent-of ws₄ q ≡ parent-of ws₃ q
       same-own q b = O .kept q (omega arith)
 
-      forest₃ : Forest (length picture) (edge-neighbours w) (grey picture) (parent-of ws₃)
-      forest₃ =
-          forest-same
-          (length picture)
-          (edge-neighbours w)
-          (grey picture)
-          (parent-of ws₁)
-          (parent-of ws₃)
-          (λ q b. O .kept q (omega arith) ∙ kept₂ q (omega arith))
-          flooded
+      forest₄ : Forest n adj g (parent-of ws₄)
+      forest₄ = forest-same n adj g (parent-of ws₁) (parent-of ws₄) (λ q b. same-own q b ∙ blank₃ .parents q b) flooded
 
-      order₃ : Order (length picture) (grey picture) (order-of (length picture) ws₃)
-      order₃ =
-          order-same
-          (length picture)
-          (grey picture)
-          (order-of (length picture) ws₁)
-          (order-of (length picture) ws₃)
-          (λ i b. O .kept (2 * length picture + i) (omega arith) ∙ kept₂ (2 * length picture + i) (omega arith))
-          (record { within = left .order; place = left .place; once = left .once; rising = left .rising })
+      same-root : (q : ℕ) → q < n → root-of picture ws₄ q ≡ root-of picture ws₃ q
+      same-root q b = root-same picture ws₄ ws₃ q (same-own q b)
 
-      own₃ : Own-held a picture ws₃ (single a w)
-      own₃ r b =
-          O .held r b
-          ∙ gather-ext
-          (length picture)
-          (combined a)
-          (nothing a)
-          (single a w)
-          (owned (grey picture) (parent-of ws₂) r)
-          (owned (grey picture) (parent-of ws₃) r)
-          (λ x c. ap (λ (k : ℕ). eqb k r) (root-same picture ws₂ ws₃ x (sym (same-own x c))))
+      starts-at : (l : ℕ) → l ≤ 256 → total l (λ (k : ℕ). getD counts k 0) ≡ darker n (node-level picture ws₄) l
+      starts-at l b =
+          total-below (node-level picture ws₃) counts n (O .nodes) l b
+          ∙ count-ext
+          n
+          (λ (q : ℕ). ltb (node-level picture ws₃ q) l)
+          (λ (q : ℕ). ltb (node-level picture ws₄ q) l)
+          (λ q c. ap (λ (k : ℕ). ltb k l) (sym (node-level-same picture ws₃ ws₄ same-own q c)))
 
-      pub pour-asked : Pourable a picture ws₃
-      pour-asked =
-          record {
-            sized = record { words = O .words ∙ F .words ∙ long ∙ sized .words; small = sized .small };
-            adj = edge-neighbours w;
-            symm = edge-symmetric w;
-            forest = forest₃;
-            order = order₃;
-            value = single a w;
-            small = λ q b. single-small a w q (short a q b);
-            own = own₃;
-          }
+      pub starts-asked : total 256 (λ (k : ℕ). getD counts k 0) < 18446744073709551616
+      starts-asked =
+          omega (arith, starts-at 256 (omega arith), count-le n (λ (q : ℕ). ltb (node-level picture ws₄ q) 256), sized .small)
 
-      -- after the pass over the descendants
-      module _ (ws₄ : List ℕ) (P : Poured a picture ws₃ ws₄) where
-        same-poured : (q : ℕ) → q < length picture → parent-of ws₄ q ≡ parent-of ws₃ q
-        same-poured q b = P .kept q (omega arith)
-
-        forest₄ : Forest (length picture) (edge-neighbours w) (grey picture) (parent-of ws₄)
-        forest₄ = forest-same (length picture) (edge-neighbours w) (grey picture) (parent-of ws₃) (parent-of ws₄) same-poured forest₃
-
-        same-root : (q : ℕ) → q < length picture → root-of picture ws₄ q ≡ root-of picture ws₂ q
-        same-root q b = root-same picture ws₄ ws₂ q (same-poured q b ∙ same-own q b)
-
-        root-below : (q : ℕ) → q < length picture → root-of picture ws₄ q < length picture
-        root-below q b = root-within picture ws₄ q b (forest₄ .within q b)
-
-        first₄ : (q : ℕ) → q < length picture → first-of (length picture) ws₄ (root-of picture ws₄ q) ≡ lowest-of picture ws₄ (root-of picture ws₄ q)
-        first₄ q b =
-            P .kept (3 * length picture + root-of picture ws₄ q) (omega (arith, root-below q b))
-            ∙ ap (first-of (length picture) ws₃) (same-root q b)
-            ∙ O .first q b
-            ∙ ap (lowest-of picture ws₂) (sym (same-root q b))
-            ∙ lowest-same picture ws₂ ws₄ (λ x c. same-poured x c ∙ same-own x c) (root-of picture ws₄ q)
-
-        -- the accumulator of the node of q
-        held-node : (q : ℕ) → q < length picture → held-of (length picture) ws₄ (root-of picture ws₄ q) ≡ gathered a (length picture) (single a w) (member (node (length picture) (edge-neighbours w) (grey picture) q))
-        held-node q b =
-            let r : ℕ = root-of picture ws₃ q in
-            let (c, e, last) = node-root-is (length picture) (edge-neighbours w) (edge-symmetric w) (grey picture) (parent-of ws₃) forest₃ q b in
-            ap (held-of (length picture) ws₄) (root-same picture ws₄ ws₃ q (same-poured q b))
-            ∙ P .held (single a w) own₃ r c last
-            ∙ gather-ext
-            (length picture)
-            (combined a)
-            (nothing a)
-            (single a w)
-            (branch (grey picture) (parent-of ws₃) r)
-            (member (node (length picture) (edge-neighbours w) (grey picture) q))
-            (λ x d. sym (node-branch (length picture) (edge-neighbours w) (edge-symmetric w) (grey picture) (parent-of ws₃) forest₃ q x b d))
-
-        self : (q : ℕ) → q < length picture → member (node (length picture) (edge-neighbours w) (grey picture) q) q ≡ true
-        self q b = level-self (length picture) (edge-neighbours w) (grey picture) (grey picture q) q b (le-refl (grey picture q))
-
-        pub record-asked : Recordable a picture ws₄
+      -- after the runs are laid out
+      module _ (starts : List ℕ) (T : Summed counts starts) where
+        pub record-asked : Recordable picture ws₄ starts
         record-asked =
             record {
-              sized = record { words = P .words ∙ O .words ∙ F .words ∙ long ∙ sized .words; small = sized .small };
+              sized = record { words = O .words ∙ words₃; small = sized .small };
+              bytes = bytes;
               within = forest₄ .within;
               root = forest₄ .root;
-              first = first₄;
-              ends =
-                  λ q b e.
-                  rw
-                  (held-node q b)
-                  (gathered-ends a (length picture) w (member (node (length picture) (edge-neighbours w) (grey picture) q)) q b (self q b) (short a) e);
+              first =
+                  λ q b.
+                  ap (first-of n ws₄) (same-root q b)
+                  ∙ O .first q b
+                  ∙ ap (lowest-of picture ws₃) (sym (same-root q b))
+                  ∙ lowest-same picture ws₃ ws₄ same-own (root-of picture ws₄ q);
+              zero = λ q b. O .kept (n + q) (omega arith) ∙ blank₃ .zero q b;
+              wide = T .wide;
+              run-starts = λ l b. T .each l b ∙ starts-at l (omega arith);
             }
 
         -- after the record is written
-        module _ (ws₅ : List ℕ) (nodes : ℕ) (R : Recorded a picture ws₄ ws₅ nodes) where
-          parents₅ : (q : ℕ) → q < length picture → getD ws₅ q 0 ≡ parent-word (length picture) (edge-neighbours w) (grey picture) q
-          parents₅ q b =
-              R .parents q b
-              ∙ sym (parent-word-lowest (length picture) (edge-neighbours w) (edge-symmetric w) (grey picture) (parent-of ws₄) forest₄ q b)
+        module _ (ws₅ : List ℕ) (nodes : ℕ) (R : Recorded picture ws₄ ws₅ nodes) where
+          forest₅ : Forest n adj g (parent-of ws₅)
+          forest₅ = relabel-forest n adj symm g (parent-of ws₄) forest₄ (parent-of ws₅) (R .parents)
 
-          measured₅ : (q : ℕ) → q < length picture → measured a (held-of (length picture) ws₄ (root-of picture ws₄ q)) ≡ attribute w (length picture) a (member (node (length picture) (edge-neighbours w) (grey picture) q))
-          measured₅ q b =
-              ap (measured a) (held-node q b)
-              ∙ measured-attribute a (length picture) w (member (node (length picture) (edge-neighbours w) (grey picture) q)) q b (self q b) (short a)
+          root₅ : (q : ℕ) → q < n → root-of picture ws₅ q ≡ lowest-of picture ws₄ (root-of picture ws₄ q)
+          root₅ = relabel-root n adj symm g (parent-of ws₄) forest₄ (parent-of ws₅) (R .parents)
 
-          attributes₅ : (q : ℕ) → q < length picture → getD ws₅ (length picture + q) 0 ≡ attribute-word (length picture) (edge-neighbours w) (attribute w (length picture) a) (grey picture) q
-          unfolding attribute-word is-representative
-          attributes₅ q b =
-              R .attributes q b
-              ∙ ap (λ (k : ℕ). cond (lowest-own-pixel picture ws₄ q) k 0) (measured₅ q b)
-              ∙ ap
-              (λ (k : ℕ). cond (eqb k q) (attribute w (length picture) a (member (node (length picture) (edge-neighbours w) (grey picture) q))) 0)
-              (sym (representative-lowest (length picture) (edge-neighbours w) (edge-symmetric w) (grey picture) (parent-of ws₄) forest₄ q b))
+          roots₅ : (q : ℕ) → q < n → roots picture ws₅ q ≡ lowest-own-pixel picture ws₄ q
+          roots₅ q b = ap (λ (k : ℕ). eqb k q) (root₅ q b)
 
-          words₅ : length ws₅ ≡ 6 * length picture
-          words₅ = R .words ∙ record-asked .sized .words
+          few : nodes ≤ n
+          few = omega (arith, R .number, count-le n (lowest-own-pixel picture ws₄))
 
-          order₅ : Order (length picture) (grey picture) (order-of (length picture) ws₅)
-          order₅ =
-              order-same
-              (length picture)
-              (grey picture)
-              (order-of (length picture) ws₃)
-              (order-of (length picture) ws₅)
-              (λ i b. R .kept (2 * length picture + i) (omega arith) ∙ P .kept (2 * length picture + i) (omega arith))
-              order₃
+          own₅ : Own-held a picture ws₅ (single a w)
+          own₅ r b e =
+              let s : ℕ = root-of picture ws₄ r in
+              let first : lowest-own-pixel picture ws₄ r ≡ true = sym (roots₅ r b) ∙ e in
+              R .held r b
+              ∙ ap (λ (t : Bool). cond t (held-of n ws₄ s) 0) first
+              ∙ O .held s (root-within picture ws₄ r b (forest₄ .within r b))
+              ∙ gather-ext
+              n
+              (combined a)
+              (nothing a)
+              (single a w)
+              (owned g (parent-of ws₃) s)
+              (owned g (parent-of ws₅) r)
+              (λ x c.
+              ap (λ (k : ℕ). eqb k s) (sym (same-root x c))
+              ∙ sym (relabel-owned n adj symm g (parent-of ws₄) forest₄ (parent-of ws₅) (R .parents) r x b c (eqb-true (lowest-of picture ws₄ s) r first)))
 
-          tree₅ :
-              take (2 * length picture) ws₅
-              ≡ parents (length picture) (edge-neighbours w) (grey picture)
-              ++ attributes (length picture) (edge-neighbours w) (attribute w (length picture) a) (grey picture)
-          unfolding parents attributes
-          tree₅ =
-              two-tables
-              (length picture)
-              (parent-word (length picture) (edge-neighbours w) (grey picture))
-              (attribute-word (length picture) (edge-neighbours w) (attribute w (length picture) a) (grey picture))
-              ws₅
-              (omega (arith, words₅))
-              parents₅
-              attributes₅
-
-          pub ordered : Ordered (w * h) w a picture ws₅ nodes
-          ordered =
-              subst
-              (λ (n : ℕ). Ordered n w a picture ws₅ nodes)
-              (B .bytes)
-              (record {
-                words = words₅;
-                tree = tree₅;
-                order = order₅;
-                number =
-                    R .number
-                    ∙ sym (number-lowest (length picture) (edge-neighbours w) (edge-symmetric w) (grey picture) (parent-of ws₄) forest₄);
-              })
+          pub pour-asked : Pourable a picture ws₅ nodes
+          pour-asked =
+              record {
+                sized = record { words = R .words ∙ O .words ∙ words₃; small = sized .small };
+                adj = adj;
+                symm = symm;
+                forest = forest₅;
+                few = few;
+                order = listed-same n nodes g (lowest-own-pixel picture ws₄) (roots picture ws₅) (order-of n ws₅) (order-of n ws₅) roots₅ (λ i b. refl) (R .order);
+                value = single a w;
+                small = λ q b. single-small a w q (short a q b);
+                ends = λ s q b i e. gathered-ends a n w s q b i (short a) e;
+                own = own₅;
+              }
 
           pub nodes-small : nodes ≤ 1048576
-          nodes-small = omega (arith, R .number, count-le (length picture) (lowest-own-pixel picture ws₄), sized .small)
+          nodes-small = omega (arith, few, sized .small)
+
+          -- after the pass over the descendants
+          module _ (ws₆ : List ℕ) (P : Poured a picture ws₅ ws₆) where
+            parents₆ : (q : ℕ) → q < n → getD ws₆ q 0 ≡ parent-word n adj g q
+            parents₆ q b = P .kept q b ∙ R .parents q b ∙ sym (parent-word-lowest n adj symm g (parent-of ws₄) forest₄ q b)
+
+            stands : (q : ℕ) → q < n → is-representative n adj g q ≡ lowest-own-pixel picture ws₄ q
+            unfolding is-representative
+            stands q b = ap (λ (k : ℕ). eqb k q) (representative-lowest n adj symm g (parent-of ws₄) forest₄ q b)
+
+            self : (q : ℕ) → q < n → member (node n adj g q) q ≡ true
+            self q b = level-self n adj g (g q) q b (le-refl (g q))
+
+            attribute-node : (q : ℕ) → q < n → roots picture ws₅ q ≡ true → word-of n ws₆ q ≡ attribute w n a (member (node n adj g q))
+            attribute-node q b e =
+                P .measures (single a w) own₅ q b e
+                ∙ ap
+                (measured a)
+                (gather-ext
+                n
+                (combined a)
+                (nothing a)
+                (single a w)
+                (branch g (parent-of ws₅) q)
+                (member (node n adj g q))
+                (λ x c.
+                sym
+                (node-branch n adj symm g (parent-of ws₅) forest₅ q x b c
+                ∙ ap (λ (r : ℕ). branch g (parent-of ws₅) r x) (eqb-true (root-of picture ws₅ q) q e))))
+                ∙ measured-attribute a n w (member (node n adj g q)) q b (self q b) (short a)
+
+            attributes₆ : (q : ℕ) → q < n → word-of n ws₆ q ≡ attribute-word n adj (attribute w n a) g q
+            unfolding attribute-word
+            attributes₆ q b =
+                ⊎-elim
+                (λ t. attribute-node q b t ∙ sym (ap (λ (k : Bool). cond k (attribute w n a (member (node n adj g q))) 0) (stands q b ∙ sym (roots₅ q b) ∙ t)))
+                (λ t.
+                P .others q b t
+                ∙ R .held q b
+                ∙ ap (λ (k : Bool). cond k (held-of n ws₄ (root-of picture ws₄ q)) 0) (sym (roots₅ q b) ∙ t)
+                ∙ sym (ap (λ (k : Bool). cond k (attribute w n a (member (node n adj g q))) 0) (stands q b ∙ sym (roots₅ q b) ∙ t)))
+                (decided (roots picture ws₅ q))
+
+            words₆ : length ws₆ ≡ 6 * n
+            words₆ = P .words ∙ R .words ∙ O .words ∙ words₃
+
+            tree₆ : take (2 * n) ws₆ ≡ parents n adj g ++ attributes n adj (attribute w n a) g
+            unfolding parents attributes
+            tree₆ = two-tables n (parent-word n adj g) (attribute-word n adj (attribute w n a) g) ws₆ (omega (arith, words₆)) parents₆ attributes₆
+
+            order₆ : Listed n nodes g (is-representative n adj g) (order-of n ws₆)
+            order₆ =
+                listed-same
+                n
+                nodes
+                g
+                (lowest-own-pixel picture ws₄)
+                (is-representative n adj g)
+                (order-of n ws₅)
+                (order-of n ws₆)
+                stands
+                (λ i b. P .rest (2 * n + i) (omega arith))
+                (R .order)
+
+            pub ordered : Ordered (w * h) w a picture ws₆ nodes
+            ordered =
+                subst
+                (λ (m : ℕ). Ordered m w a picture ws₆ nodes)
+                (B .bytes)
+                (record {
+                  words = words₆;
+                  tree = tree₆;
+                  order = order₆;
+                  number = R .number ∙ sym (number-lowest n adj symm g (parent-of ws₄) forest₄);
+                })

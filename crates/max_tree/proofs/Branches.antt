@@ -45,7 +45,7 @@ module _ (g par : ℕ → ℕ) where
       }))
       (or-cases (eqb (node-root g par x) r) (ltb (g r) (g x) && (eqb (par c) r && done c)) e)
 
-  poured-own : (done : Positions) (r x : ℕ) → node-root g par x ≡ r → poured g par done r x ≡ true
+  pub poured-own : (done : Positions) (r x : ℕ) → node-root g par x ≡ r → poured g par done r x ≡ true
   unfolding poured
   poured-own done r x e = or-left (eqb (node-root g par x) r) _ (eq-eqb (node-root g par x) r e)
 
@@ -104,6 +104,11 @@ module _ (n : ℕ) (adj : Adjacency) (symm : Symmetric adj) (g par : ℕ → ℕ
   top-grey : (h q : ℕ) → q < n → h ≤ g q → h ≤ g (top g par h q)
   top-grey h q b l = component-grey n adj g h q (top g par h q) (top-in n adj symm g par forest h q b l)
 
+  -- it is a node root
+  top-last : (h q : ℕ) → q < n → h ≤ g q → Node-root g par (top g par h q)
+  top-last h q b l =
+      ⊎-elim (λ e. inl e) (λ low. inr (omega (arith, top-grey h q b l))) (top-stops h q b)
+
   -- the last ancestor at a lower level is that of the last ancestor
   top-top : (h k q : ℕ) → q < n → h ≤ k → k ≤ g q → top g par h (top g par k q) ≡ top g par h q
   top-top h k q b l m =
@@ -161,7 +166,7 @@ module _ (n : ℕ) (adj : Adjacency) (symm : Symmetric adj) (g par : ℕ → ℕ
       (poured-cases g par done r x e)
 
   -- with all the children it is the whole node
-  pub poured-all : (done : Positions) (r x : ℕ) → r < n → x < n → Node-root g par r → ((c : ℕ) → c < n → g r < g c → done c ≡ true) → poured g par done r x ≡ branch g par r x
+  pub poured-all : (done : Positions) (r x : ℕ) → r < n → x < n → Node-root g par r → ((c : ℕ) → c < n → g r < g c → Node-root g par c → done c ≡ true) → poured g par done r x ≡ branch g par r x
   poured-all done r x b c root full =
       same-truth
       (poured g par done r x)
@@ -184,7 +189,7 @@ module _ (n : ℕ) (adj : Adjacency) (symm : Symmetric adj) (g par : ℕ → ℕ
         deep = m;
         up = child-up r x c m t;
         in-done =
-            full (top g par (suc (g r)) x) (top-below (suc (g r)) x c m) (top-grey (suc (g r)) x c m);
+            full (top g par (suc (g r)) x) (top-below (suc (g r)) x c m) (top-grey (suc (g r)) x c m) (top-last (suc (g r)) x c m);
       }))
       (le-or-lt (g x) (g r)))
 

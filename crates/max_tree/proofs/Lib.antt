@@ -2,6 +2,7 @@ pub mod Accumulators
 pub mod Branches
 pub mod Stores
 pub mod Owning
+pub mod Listing
 pub mod Pouring
 pub mod Writing
 pub mod FloodForest

@@ -1,105 +1,119 @@
--- The pass over the own pixels, from the last position down: what holds when the pixels from i on have been taken, one more of
--- them, and the end. Assumes nothing.
-use Prim.Native.Nat.{ℕ, _+_, _*_, _-_, _≤_, _<_}
-use mathlib.Core.Bool.{Bool, true, false, _&&_, _||_}
+-- The pass over the own pixels, in order of position: what holds when the pixels below i have been taken, one more of them, and the
+-- end. Assumes nothing.
+use Prim.Native.Nat.{ℕ, _+_, _*_, _≤_, _<_}
+use mathlib.Core.Bool.{Bool, true, false, cond, _&&_, _||_}
 use mathlib.Core.List.{List}
 use mathlib.Core.Logic.{⊎-elim}
 use mathlib.Core.Path.{_≡_, refl, sym, ap, subst, _∙_}
 use native.Mathlib.Nat.{le-antisymm}
+use native.Mathlib.Numerals.{add-one}
 use native.Mathlib.Omega.{arith}
-use lib.Dec.{eqb, leb}
-use lib.ListN.{getD, length, set}
-use borrow.Author.Tests.{eqb-true, eq-eqb, leb-true, le-leb, lt-leb}
-use Rattle.sets.specs.Sets.{Positions}
-use Rattle.sets.proofs.Tests.{same-truth, and-left, and-right, and-both, or-cases, or-left, or-right}
+use lib.Dec.{eqb, ltb}
+use lib.ListN.{getD, length, set, length-set, replicate, length-replicate, getD-replicate}
+use lib.Seq.{getD-set-same, getD-set-other}
+use borrow.Author.Tests.{eqb-true, eqb-false, eq-eqb, ne-eqb, ltb-true, lt-ltb, le-ltb}
+use Rattle.sets.specs.Sets.{Positions, count}
+use Rattle.sets.proofs.Tests.{decided, clash, is-false, same-truth, and-left, and-right, and-both, or-cases, or-left, or-right}
+use Rattle.sets.proofs.Laws.{count-le}
 use Rattle.sets.proofs.Gather.{gather-ext, gather-none, first-in-le, first-in-holds}
+use Rattle.opening.proofs.Levels.{cond-case}
 use Rattle.tree.specs.Forest.{lowest}
 use Rattle.flood.specs.Levels.{grey}
-use Rattle.flood.proofs.Counts.{equal-or-not}
+use Rattle.flood.proofs.Counts.{equal-or-not, bit, on, off}
 use Rattle.max_tree.specs.Accumulators.{nothing, single, combined, gathered}
 use Rattle.max_tree.specs.Branches.{owned}
 use Rattle.flood.specs.Flooding.{parent-of}
-use Rattle.max_tree.specs.Passes.{first-of, held-of, root-of, Blank, Owned}
+use Rattle.max_tree.specs.Passes.{first-of, held-of, root-of, lowest-of, lowest-own-pixel, node-level, Blank, Noting, unmet, noted-at, counted-at, Owned}
 use Rattle.max_tree.proofs.Accumulators.{single-small, gathered-small, bound-small, gathered-with}
-use Rattle.max_tree.proofs.Stores.{read-one, read-two, read-else, length-two, root-within}
+use Rattle.max_tree.proofs.Stores.{count-next, root-within}
 
--- the positions from i on with the label r
-abbrev pub from : (ℕ → ℕ) → ℕ → ℕ → Positions
-from label i r x = leb i x && eqb (label x) r
+-- the positions below i with the label r
+abbrev pub below : (ℕ → ℕ) → ℕ → ℕ → Positions
+below label i r x = ltb x i && eqb (label x) r
 
-module _ (n : ℕ) (label : ℕ → ℕ) (i : ℕ) (pos : 0 < i) (top : i ≤ n) where
-  from-last : (r : ℕ) → from label i r (i - 1) ≡ false
-  from-last r = ap (λ (t : Bool). t && eqb (label (i - 1)) r) (lt-leb i (i - 1) (omega arith))
+module _ (label : ℕ → ℕ) (i : ℕ) where
+  below-last : (r : ℕ) → below label i r i ≡ false
+  below-last r = ap (λ (t : Bool). t && eqb (label i) r) (le-ltb i i (omega arith))
 
-  from-more : (x : ℕ) → from label (i - 1) (label (i - 1)) x ≡ (from label i (label (i - 1)) x || eqb (i - 1) x)
-  from-more x =
-      let r : ℕ = label (i - 1) in
-      same-truth
-      (from label (i - 1) r x)
-      (from label i r x || eqb (i - 1) x)
-      (λ e.
-      let l : i - 1 ≤ x = leb-true (i - 1) x (and-left (leb (i - 1) x) (eqb (label x) r) e) in
-      ⊎-elim
-      (λ z. or-right (from label i r x) (eqb (i - 1) x) (eq-eqb (i - 1) x z))
-      (λ z.
-      or-left
-      (from label i r x)
-      (eqb (i - 1) x)
-      (and-both (leb i x) (eqb (label x) r) (le-leb i x (omega arith)) (and-right (leb (i - 1) x) (eqb (label x) r) e)))
-      (equal-or-not (i - 1) x))
-      (λ e.
-      ⊎-elim
-      (λ f.
+  below-less : (r x : ℕ) → below label (i + 1) r x ≡ true → (i ≡ x → ⊥) → below label i r x ≡ true
+  below-less r x e ne =
       and-both
-      (leb (i - 1) x)
+      (ltb x i)
       (eqb (label x) r)
-      (le-leb (i - 1) x (omega (arith, leb-true i x (and-left (leb i x) (eqb (label x) r) f))))
-      (and-right (leb i x) (eqb (label x) r) f))
-      (λ f.
-      let z : i - 1 ≡ x = eqb-true (i - 1) x f in
-      and-both (leb (i - 1) x) (eqb (label x) r) (le-leb (i - 1) x (omega arith)) (eq-eqb (label x) r (ap label (sym z))))
-      (or-cases (from label i r x) (eqb (i - 1) x) e))
+      (lt-ltb x i (omega (arith, ltb-true x (i + 1) (and-left (ltb x (i + 1)) (eqb (label x) r) e))))
+      (and-right (ltb x (i + 1)) (eqb (label x) r) e)
 
-  from-other : (r x : ℕ) → (r ≡ label (i - 1) → ⊥) → from label (i - 1) r x ≡ from label i r x
-  from-other r x ne =
-      same-truth
-      (from label (i - 1) r x)
-      (from label i r x)
-      (λ e.
-      let same : eqb (label x) r ≡ true = and-right (leb (i - 1) x) (eqb (label x) r) e in
-      let l : i - 1 ≤ x = leb-true (i - 1) x (and-left (leb (i - 1) x) (eqb (label x) r) e) in
-      let off : i - 1 ≡ x → ⊥ = λ z. ne (sym (eqb-true (label x) r same) ∙ ap label (sym z)) in
-      and-both (leb i x) (eqb (label x) r) (le-leb i x (omega arith)) same)
-      (λ e.
+  below-still : (r x : ℕ) → below label i r x ≡ true → below label (i + 1) r x ≡ true
+  below-still r x e =
       and-both
-      (leb (i - 1) x)
+      (ltb x (i + 1))
       (eqb (label x) r)
-      (le-leb (i - 1) x (omega (arith, leb-true i x (and-left (leb i x) (eqb (label x) r) e))))
-      (and-right (leb i x) (eqb (label x) r) e))
+      (lt-ltb x (i + 1) (omega (arith, ltb-true x i (and-left (ltb x i) (eqb (label x) r) e))))
+      (and-right (ltb x i) (eqb (label x) r) e)
 
--- the lowest own pixel from i on of the node of x
-pub record First (picture ws₀ ws : List ℕ) (i x : ℕ) : Type 0 where
+  below-more : (r x : ℕ) → label i ≡ r → below label (i + 1) r x ≡ (below label i r x || eqb i x)
+  below-more r x is =
+      same-truth
+      (below label (i + 1) r x)
+      (below label i r x || eqb i x)
+      (λ e.
+      ⊎-elim
+      (λ z. or-right (below label i r x) (eqb i x) (eq-eqb i x z))
+      (λ ne. or-left (below label i r x) (eqb i x) (below-less r x e ne))
+      (equal-or-not i x))
+      (λ e.
+      ⊎-elim
+      (below-still r x)
+      (λ f.
+      let z : i ≡ x = eqb-true i x f in
+      and-both (ltb x (i + 1)) (eqb (label x) r) (lt-ltb x (i + 1) (omega arith)) (eq-eqb (label x) r (ap label (sym z) ∙ is)))
+      (or-cases (below label i r x) (eqb i x) e))
+
+  below-other : (r x : ℕ) → (label i ≡ r → ⊥) → below label (i + 1) r x ≡ below label i r x
+  below-other r x ne =
+      same-truth
+      (below label (i + 1) r x)
+      (below label i r x)
+      (λ e.
+      below-less r x e (λ z. ne (ap label z ∙ eqb-true (label x) r (and-right (ltb x (i + 1)) (eqb (label x) r) e))))
+      (below-still r x)
+
+-- the pixel noted for the node of x is one of its own, at or before x
+pub record First (picture ws₀ ws : List ℕ) (x : ℕ) : Type 0 where
   pub low : first-of (length picture) ws (root-of picture ws₀ x) ≤ x
-  pub high : i ≤ first-of (length picture) ws (root-of picture ws₀ x)
   pub own : root-of picture ws₀ (first-of (length picture) ws (root-of picture ws₀ x)) ≡ root-of picture ws₀ x
 
-pub record Owning (w a : ℕ) (picture ws₀ ws : List ℕ) (i : ℕ) : Type 0 where
+pub record Owning (w a : ℕ) (picture ws₀ ws counts : List ℕ) (i : ℕ) : Type 0 where
   pub top : i ≤ length picture
   pub words : length ws ≡ length ws₀
   pub kept : (k : ℕ) → k < 3 * length picture → getD ws k 0 ≡ getD ws₀ k 0
-  pub first : (x : ℕ) → i ≤ x → x < length picture → First picture ws₀ ws i x
+  pub first : (x : ℕ) → x < i → First picture ws₀ ws x
+  pub none :
+      (r : ℕ) → r < length picture → ((x : ℕ) → x < i → root-of picture ws₀ x ≡ r → ⊥)
+      → first-of (length picture) ws r ≡ length picture
   pub held :
       (r : ℕ) → r < length picture
-      → held-of (length picture) ws r ≡ gathered a (length picture) (single a w) (from (root-of picture ws₀) i r)
+      → held-of (length picture) ws r ≡ gathered a (length picture) (single a w) (below (root-of picture ws₀) i r)
+  pub wide : length counts ≡ 256
+  pub nodes : (l : ℕ) → l < 256 → getD counts l 0 ≡ count i (λ (q : ℕ). eqb (node-level picture ws₀ q) l)
+
+-- what is noted of one pixel
+pub noted-met : (picture : List ℕ) (q r : ℕ) (ws counts : List ℕ) → (first-of (length picture) ws r ≡ length picture → ⊥) → (ws ≡ noted-at picture q r ws) × (counts ≡ counted-at picture q r ws counts)
+noted-met picture q r ws counts ne = rw (ne-eqb (first-of (length picture) ws r) (length picture) ne) (refl, refl)
+
+pub noted-unmet : (picture : List ℕ) (q r : ℕ) (ws counts : List ℕ) → first-of (length picture) ws r ≡ length picture → (set ws (3 * length picture + r) q ≡ noted-at picture q r ws) × (set counts (grey picture q) (getD counts (grey picture q) 0 + 1) ≡ counted-at picture q r ws counts)
+noted-unmet picture q r ws counts e = rw (eq-eqb (first-of (length picture) ws r) (length picture) e) (refl, refl)
 
 module _ (w a : ℕ) (picture ws₀ : List ℕ) (start : Blank w a picture ws₀) where
-  pub owning-none : Owning w a picture ws₀ ws₀ (length picture)
+  pub owning-none : Owning w a picture ws₀ ws₀ (replicate 256 0) 0
+  unfolding count
   owning-none =
       record {
         top = omega arith;
         words = refl;
         kept = λ k b. refl;
-        first = λ x l b. absurd (omega arith);
+        first = λ x b. absurd (omega arith);
+        none = λ r b free. start .unnoted r b;
         held =
             λ r b.
             start .blank r b
@@ -109,119 +123,286 @@ module _ (w a : ℕ) (picture ws₀ : List ℕ) (start : Blank w a picture ws₀
             (combined a)
             (nothing a)
             (single a w)
-            (from (root-of picture ws₀) (length picture) r)
-            (λ q c. ap (λ (t : Bool). t && eqb (root-of picture ws₀ q) r) (lt-leb (length picture) q c)));
+            (below (root-of picture ws₀) 0 r)
+            (λ q c. ap (λ (t : Bool). t && eqb (root-of picture ws₀ q) r) (le-ltb q 0 (omega arith))));
+        wide = length-replicate {A = ℕ} 256 0;
+        nodes = λ l b. getD-replicate 256 l 0 0 b;
       }
 
-  pub owning-small : (ws : List ℕ) (i r : ℕ) → Owning w a picture ws₀ ws i → r < length picture → held-of (length picture) ws r ≤ 16777215
-  owning-small ws i r O b =
+  pub owning-small : (ws counts : List ℕ) (i r : ℕ) → Owning w a picture ws₀ ws counts i → r < length picture → held-of (length picture) ws r ≤ 16777215
+  owning-small ws counts i r O b =
       rw
       (O .held r b)
       (bound-small
       a
       (length picture)
-      (gathered a (length picture) (single a w) (from (root-of picture ws₀) i r))
+      (gathered a (length picture) (single a w) (below (root-of picture ws₀) i r))
       (start .sized .small)
-      (gathered-small a (length picture) (single a w) (from (root-of picture ws₀) i r) (λ q c. single-small a w q (start .short q c))))
+      (gathered-small a (length picture) (single a w) (below (root-of picture ws₀) i r) (λ q c. single-small a w q (start .short q c))))
 
-  -- one pixel more, i - 1, with the node root r
-  module _ (ws : List ℕ) (i r y : ℕ) (pos : 0 < i) (O : Owning w a picture ws₀ ws i) (is : r ≡ root-of picture ws₀ (i - 1)) (new : y ≡ combined a (held-of (length picture) ws r) (single a w (i - 1))) where
-    below : r < length picture
-    below = rw is (root-within picture ws₀ (i - 1) (omega (arith, O .top)) (start .within (i - 1) (omega (arith, O .top))))
+  -- the lowest own pixel of the node of x is at or before x, and of the same node
+  lowest-low : (x : ℕ) → x < length picture → lowest-of picture ws₀ (root-of picture ws₀ x) ≤ x
+  unfolding lowest
+  lowest-low x b =
+      first-in-le
+      (length picture)
+      (λ (y : ℕ). eqb (root-of picture ws₀ y) (root-of picture ws₀ x))
+      x
+      b
+      (eq-eqb (root-of picture ws₀ x) (root-of picture ws₀ x) refl)
 
-    low-place : 3 * length picture + r < length ws
-    low-place = omega (arith, below, O .words, start .sized .words)
+  lowest-own : (x : ℕ) → x < length picture → root-of picture ws₀ (lowest-of picture ws₀ (root-of picture ws₀ x)) ≡ root-of picture ws₀ x
+  unfolding lowest
+  lowest-own x b =
+      eqb-true
+      (root-of picture ws₀ (lowest-of picture ws₀ (root-of picture ws₀ x)))
+      (root-of picture ws₀ x)
+      (first-in-holds
+      (length picture)
+      (λ (y : ℕ). eqb (root-of picture ws₀ y) (root-of picture ws₀ x))
+      (omega (arith, lowest-low x b)))
+
+  -- one pixel more, i, with the node root r: first its accumulator, then the note
+  module _ (ws counts : List ℕ) (i r y : ℕ) (b : i < length picture) (O : Owning w a picture ws₀ ws counts i) (is : r ≡ root-of picture ws₀ i) (new : y ≡ combined a (held-of (length picture) ws r) (single a w i)) where
+    in-range : r < length picture
+    in-range = rw is (root-within picture ws₀ i b (start .within i b))
+
+    first-place : 3 * length picture + r < length ws
+    first-place = omega (arith, in-range, O .words, start .sized .words)
 
     held-place : 4 * length picture + r < length ws
-    held-place = omega (arith, below, O .words, start .sized .words)
+    held-place = omega (arith, in-range, O .words, start .sized .words)
 
-    apart : 3 * length picture + r ≡ 4 * length picture + r → ⊥
-    apart z = omega (arith, below)
+    abbrev ws₁ : List ℕ
+    ws₁ = set ws (4 * length picture + r) y
 
-    abbrev ws' : List ℕ
-    ws' = set (set ws (3 * length picture + r) (i - 1)) (4 * length picture + r) y
+    first-same : (s : ℕ) → s < length picture → first-of (length picture) ws₁ s ≡ first-of (length picture) ws s
+    first-same s c = getD-set-other ws (4 * length picture + r) (3 * length picture + s) y 0 (λ z. omega arith)
 
-    else : (k : ℕ) → (k ≡ 3 * length picture + r → ⊥) → (k ≡ 4 * length picture + r → ⊥) → getD ws' k 0 ≡ getD ws k 0
-    else = read-else ws (3 * length picture + r) (4 * length picture + r) (i - 1) y low-place held-place apart
+    pub note-asked : Noting picture i r ws₁ counts
+    note-asked =
+        record {
+          sized = record { words = length-set ws (4 * length picture + r) y ∙ O .words ∙ start .sized .words; small = start .sized .small };
+          within = b;
+          root = in-range;
+          level = start .bytes i;
+          wide = O .wide;
+          few = omega (arith, O .nodes (grey picture i) (start .bytes i), count-le i (λ (q : ℕ). eqb (node-level picture ws₀ q) (grey picture i)));
+        }
 
-    first-here : first-of (length picture) ws' r ≡ i - 1
-    first-here = read-one ws (3 * length picture + r) (4 * length picture + r) (i - 1) y low-place held-place apart
-
-    first-more : (x : ℕ) → i - 1 ≤ x → x < length picture → First picture ws₀ ws' (i - 1) x
-    first-more x l b =
-        let s : ℕ = root-of picture ws₀ x in
-        let c : s < length picture = root-within picture ws₀ x b (start .within x b) in
+    held-more : (s : ℕ) → s < length picture → held-of (length picture) ws₁ s ≡ gathered a (length picture) (single a w) (below (root-of picture ws₀) (i + 1) s)
+    held-more s c =
         ⊎-elim
         (λ z.
-        let f : first-of (length picture) ws' s ≡ i - 1 = ap (first-of (length picture) ws') z ∙ first-here in
-        record { low = omega arith; high = omega arith; own = ap (root-of picture ws₀) f ∙ sym is ∙ sym z })
-        (λ ne.
-        let f : first-of (length picture) ws' s ≡ first-of (length picture) ws s = else (3 * length picture + s) (λ z. ne (omega arith)) (λ z. omega (arith, below)) in
-        let off : i - 1 ≡ x → ⊥ = λ z. ne (ap (root-of picture ws₀) (sym z) ∙ sym is) in
-        let F : First picture ws₀ ws i x = O .first x (omega arith) b in
-        record { low = omega (arith, F .low); high = omega (arith, F .high); own = ap (root-of picture ws₀) f ∙ F .own })
-        (equal-or-not s r)
-
-    one-more : (x : ℕ) → from (root-of picture ws₀) (i - 1) r x ≡ (from (root-of picture ws₀) i r x || eqb (i - 1) x)
-    one-more x =
-        subst
-        (λ (k : ℕ). from (root-of picture ws₀) (i - 1) k x ≡ (from (root-of picture ws₀) i k x || eqb (i - 1) x))
-        (sym is)
-        (from-more (length picture) (root-of picture ws₀) i pos (O .top) x)
-
-    held-more : (s : ℕ) → s < length picture → held-of (length picture) ws' s ≡ gathered a (length picture) (single a w) (from (root-of picture ws₀) (i - 1) s)
-    held-more s b =
-        ⊎-elim
-        (λ z.
-        ap (held-of (length picture) ws') z
-        ∙ read-two ws (3 * length picture + r) (4 * length picture + r) (i - 1) y low-place held-place apart
+        ap (held-of (length picture) ws₁) z
+        ∙ getD-set-same ws (4 * length picture + r) y 0 held-place
         ∙ new
-        ∙ ap (λ (k : ℕ). combined a k (single a w (i - 1))) (O .held r below)
+        ∙ ap (λ (k : ℕ). combined a k (single a w i)) (O .held r in-range)
         ∙ sym
         (gathered-with
         a
         (length picture)
         (single a w)
-        (from (root-of picture ws₀) i r)
-        (from (root-of picture ws₀) (i - 1) s)
-        (i - 1)
-        (omega (arith, O .top))
-        (from-last (length picture) (root-of picture ws₀) i pos (O .top) r)
-        (λ x c. subst (λ (k : ℕ). from (root-of picture ws₀) (i - 1) k x ≡ (from (root-of picture ws₀) i r x || eqb (i - 1) x)) (sym z) (one-more x))))
+        (below (root-of picture ws₀) i r)
+        (below (root-of picture ws₀) (i + 1) s)
+        i
+        b
+        (below-last (root-of picture ws₀) i r)
+        (λ x d.
+        subst
+        (λ (k : ℕ). below (root-of picture ws₀) (i + 1) k x ≡ (below (root-of picture ws₀) i r x || eqb i x))
+        (sym z)
+        (below-more (root-of picture ws₀) i r x (sym is)))))
         (λ ne.
-        else (4 * length picture + s) (λ z. omega (arith, below)) (λ z. ne (omega arith))
-        ∙ O .held s b
+        getD-set-other ws (4 * length picture + r) (4 * length picture + s) y 0 (λ z. ne (omega arith))
+        ∙ O .held s c
         ∙ sym
         (gather-ext
         (length picture)
         (combined a)
         (nothing a)
         (single a w)
-        (from (root-of picture ws₀) (i - 1) s)
-        (from (root-of picture ws₀) i s)
-        (λ x c. from-other (length picture) (root-of picture ws₀) i pos (O .top) s x (λ z. ne (z ∙ sym is)))))
+        (below (root-of picture ws₀) (i + 1) s)
+        (below (root-of picture ws₀) i s)
+        (λ x d. below-other (root-of picture ws₀) i s x (λ z. ne (sym z ∙ sym is)))))
         (equal-or-not s r)
 
-    pub owning-more : Owning w a picture ws₀ ws' (i - 1)
-    owning-more =
-        record {
-          top = omega (arith, O .top);
-          words = length-two ws (3 * length picture + r) (4 * length picture + r) (i - 1) y low-place held-place apart ∙ O .words;
-          kept = λ k b. else k (λ z. omega arith) (λ z. omega arith) ∙ O .kept k b;
-          first = first-more;
-          held = held-more;
-        }
+    abbrev m : ℕ
+    m = lowest-of picture ws₀ (root-of picture ws₀ i)
 
-  first-lowest : (ws : List ℕ) → Owning w a picture ws₀ ws 0 → (q : ℕ) → q < length picture → first-of (length picture) ws (root-of picture ws₀ q) ≡ lowest (length picture) (grey picture) (parent-of ws₀) (root-of picture ws₀ q)
+    -- nothing is noted exactly where i is the lowest own pixel
+    fresh : unmet picture r ws₁ ≡ lowest-own-pixel picture ws₀ i
+    fresh =
+        same-truth
+        (unmet picture r ws₁)
+        (lowest-own-pixel picture ws₀ i)
+        (λ e.
+        let n : first-of (length picture) ws r ≡ length picture =
+        sym (first-same r in-range) ∙ eqb-true (first-of (length picture) ws₁ r) (length picture) e in
+        eq-eqb
+        m
+        i
+        (⊎-elim
+        (λ z. z)
+        (λ ne.
+        let before : m < i = omega (arith, lowest-low i b) in
+        let same : first-of (length picture) ws (root-of picture ws₀ m) ≡ first-of (length picture) ws r =
+        ap (first-of (length picture) ws) (lowest-own i b ∙ sym is) in
+        absurd (omega (arith, O .first m before .low)))
+        (equal-or-not m i)))
+        (λ e.
+        let z : m ≡ i = eqb-true m i e in
+        eq-eqb
+        (first-of (length picture) ws₁ r)
+        (length picture)
+        (first-same r in-range
+        ∙ O .none r in-range
+        (λ x c f.
+        let g : lowest-of picture ws₀ (root-of picture ws₀ x) ≡ m = ap (lowest-of picture ws₀) (f ∙ is) in
+        omega (arith, lowest-low x (omega arith)))))
+
+    level-first : lowest-own-pixel picture ws₀ i ≡ true → node-level picture ws₀ i ≡ grey picture i
+    level-first e = ap (λ (t : Bool). cond t (grey picture i) 256) e
+
+    level-other : lowest-own-pixel picture ws₀ i ≡ false → node-level picture ws₀ i ≡ 256
+    level-other e = ap (λ (t : Bool). cond t (grey picture i) 256) e
+
+    -- a node that is met for the first time
+    module _ (e : unmet picture r ws₁ ≡ true) where
+      abbrev ws₂ : List ℕ
+      ws₂ = set ws₁ (3 * length picture + r) i
+
+      room : 3 * length picture + r < length ws₁
+      room = rw (length-set ws (4 * length picture + r) y) first-place
+
+      other₂ : (k : ℕ) → (k ≡ 3 * length picture + r → ⊥) → getD ws₂ k 0 ≡ getD ws₁ k 0
+      other₂ k ne = getD-set-other ws₁ (3 * length picture + r) k i 0 ne
+
+      here₂ : first-of (length picture) ws₂ r ≡ i
+      here₂ = getD-set-same ws₁ (3 * length picture + r) i 0 room
+
+      first₂ : (x : ℕ) → x < i + 1 → First picture ws₀ ws₂ x
+      first₂ x c =
+          let s : ℕ = root-of picture ws₀ x in
+          let d : s < length picture = root-within picture ws₀ x (omega arith) (start .within x (omega arith)) in
+          ⊎-elim
+          (λ z.
+          let f : first-of (length picture) ws₂ s ≡ i = ap (first-of (length picture) ws₂) z ∙ here₂ in
+          let l : i ≤ x =
+          ⊎-elim
+          (λ v. omega arith)
+          (λ v.
+          let g : m ≡ i = eqb-true m i (sym fresh ∙ e) in
+          let h : lowest-of picture ws₀ s ≡ m = ap (lowest-of picture ws₀) (z ∙ is) in
+          omega (arith, lowest-low x (omega arith)))
+          (equal-or-not x i) in
+          record { low = omega arith; own = ap (root-of picture ws₀) f ∙ sym is ∙ sym z })
+          (λ ne.
+          let f : first-of (length picture) ws₂ s ≡ first-of (length picture) ws s =
+          other₂ (3 * length picture + s) (λ z. ne (omega arith)) ∙ first-same s d in
+          let off : x ≡ i → ⊥ = λ z. ne (ap (root-of picture ws₀) z ∙ sym is) in
+          let F : First picture ws₀ ws x = O .first x (omega arith) in
+          record { low = omega (arith, F .low); own = ap (root-of picture ws₀) f ∙ F .own })
+          (equal-or-not s r)
+
+      none₂ : (s : ℕ) → s < length picture → ((x : ℕ) → x < i + 1 → root-of picture ws₀ x ≡ s → ⊥) → first-of (length picture) ws₂ s ≡ length picture
+      none₂ s c free =
+          other₂ (3 * length picture + s) (λ z. let v : s ≡ r = omega arith in free i (omega arith) (sym is ∙ sym v))
+          ∙ first-same s c
+          ∙ O .none s c (λ x d f. free x (omega arith) f)
+
+      counts₂ : (l : ℕ) → l < 256 → getD (set counts (grey picture i) (getD counts (grey picture i) 0 + 1)) l 0 ≡ count (i + 1) (λ (q : ℕ). eqb (node-level picture ws₀ q) l)
+      counts₂ l c =
+          let at : node-level picture ws₀ i ≡ grey picture i = level-first (sym fresh ∙ e) in
+          let next : count (i + 1) (λ (q : ℕ). eqb (node-level picture ws₀ q) l) ≡ bit (eqb (node-level picture ws₀ i) l) + count i (λ (q : ℕ). eqb (node-level picture ws₀ q) l) =
+          count-next i (λ (q : ℕ). eqb (node-level picture ws₀ q) l) in
+          ⊎-elim
+          (λ z.
+          let one : bit (eqb (node-level picture ws₀ i) l) ≡ 1 = on (eq-eqb (node-level picture ws₀ i) l (at ∙ sym z)) in
+          let up : getD (set counts (grey picture i) (getD counts (grey picture i) 0 + 1)) l 0 ≡ getD counts l 0 + 1 =
+          rw z (getD-set-same counts (grey picture i) (getD counts (grey picture i) 0 + 1) 0 (omega (arith, O .wide, start .bytes i))) in
+          omega (arith, O .nodes l c))
+          (λ ne.
+          let none : bit (eqb (node-level picture ws₀ i) l) ≡ 0 = off (ne-eqb (node-level picture ws₀ i) l (λ z. ne (sym z ∙ at))) in
+          omega (arith, O .nodes l c, getD-set-other counts (grey picture i) l (getD counts (grey picture i) 0 + 1) 0 ne))
+          (equal-or-not l (grey picture i))
+
+      met-first : Owning w a picture ws₀ ws₂ (set counts (grey picture i) (getD counts (grey picture i) 0 + 1)) (i + 1)
+      met-first =
+          record {
+            top = omega arith;
+            words = length-set ws₁ (3 * length picture + r) i ∙ length-set ws (4 * length picture + r) y ∙ O .words;
+            kept =
+                λ k c.
+                other₂ k (λ z. omega arith)
+                ∙ getD-set-other ws (4 * length picture + r) k y 0 (λ z. omega arith)
+                ∙ O .kept k c;
+            first = first₂;
+            none = none₂;
+            held = λ s c. other₂ (4 * length picture + s) (λ z. omega (arith, in-range)) ∙ held-more s c;
+            wide = length-set counts (grey picture i) _ ∙ O .wide;
+            nodes = counts₂;
+          }
+
+    -- a node that was met before
+    module _ (e : unmet picture r ws₁ ≡ false) where
+      not-first : lowest-own-pixel picture ws₀ i ≡ false
+      not-first = sym fresh ∙ e
+
+      before : m < i
+      before =
+          let ne : m ≡ i → ⊥ = eqb-false m i not-first in
+          omega (arith, lowest-low i b)
+
+      first₁ : (x : ℕ) → x < i → First picture ws₀ ws₁ x
+      first₁ x c =
+          let f : first-of (length picture) ws₁ (root-of picture ws₀ x) ≡ first-of (length picture) ws (root-of picture ws₀ x) =
+          first-same (root-of picture ws₀ x) (root-within picture ws₀ x (omega arith) (start .within x (omega arith))) in
+          record { low = omega (arith, O .first x c .low); own = ap (root-of picture ws₀) f ∙ O .first x c .own }
+
+      first-last : First picture ws₀ ws₁ i
+      first-last =
+          let F : First picture ws₀ ws₁ m = first₁ m before in
+          let z : root-of picture ws₀ m ≡ root-of picture ws₀ i = lowest-own i b in
+          let f : first-of (length picture) ws₁ (root-of picture ws₀ m) ≡ first-of (length picture) ws₁ (root-of picture ws₀ i) =
+          ap (first-of (length picture) ws₁) z in
+          record { low = omega (arith, F .low, before); own = ap (root-of picture ws₀) (sym f) ∙ F .own ∙ z }
+
+      met-again : Owning w a picture ws₀ ws₁ counts (i + 1)
+      met-again =
+          record {
+            top = omega arith;
+            words = length-set ws (4 * length picture + r) y ∙ O .words;
+            kept = λ k c. getD-set-other ws (4 * length picture + r) k y 0 (λ z. omega arith) ∙ O .kept k c;
+            first =
+                λ x c.
+                ⊎-elim (λ z. subst (λ (k : ℕ). First picture ws₀ ws₁ k) (sym z) first-last) (λ ne. first₁ x (omega arith)) (equal-or-not x i);
+            none = λ s c free. first-same s c ∙ O .none s c (λ x d f. free x (omega arith) f);
+            held = held-more;
+            wide = O .wide;
+            nodes =
+                λ l c.
+                let off-level : bit (eqb (node-level picture ws₀ i) l) ≡ 0 =
+                off (ne-eqb (node-level picture ws₀ i) l (λ z. omega (arith, level-other not-first))) in
+                omega (arith, O .nodes l c, count-next i (λ (q : ℕ). eqb (node-level picture ws₀ q) l));
+          }
+
+    pub owning-more : (l c : List ℕ) → l ≡ noted-at picture i r ws₁ → c ≡ counted-at picture i r ws₁ counts → Owning w a picture ws₀ l c (i + 1)
+    owning-more l c e f =
+        rw (e, f)
+        (⊎-elim
+        (λ t. rw t (met-first t))
+        (λ t. rw t (met-again t))
+        (decided (unmet picture r ws₁)))
+
+  first-lowest : (ws counts : List ℕ) → Owning w a picture ws₀ ws counts (length picture) → (q : ℕ) → q < length picture → first-of (length picture) ws (root-of picture ws₀ q) ≡ lowest-of picture ws₀ (root-of picture ws₀ q)
   unfolding lowest
-  first-lowest ws O q b =
+  first-lowest ws counts O q b =
       let s : Positions = λ x. eqb (root-of picture ws₀ x) (root-of picture ws₀ q) in
-      let m : ℕ = lowest (length picture) (grey picture) (parent-of ws₀) (root-of picture ws₀ q) in
-      let F : First picture ws₀ ws 0 q = O .first q (omega arith) b in
-      let h : m ≤ q = first-in-le (length picture) s q b (eq-eqb (root-of picture ws₀ q) (root-of picture ws₀ q) refl) in
-      let e : root-of picture ws₀ m ≡ root-of picture ws₀ q = eqb-true (root-of picture ws₀ m) (root-of picture ws₀ q) (first-in-holds (length picture) s (omega arith)) in
+      let F : First picture ws₀ ws q = O .first q b in
+      let m : ℕ = lowest-of picture ws₀ (root-of picture ws₀ q) in
       le-antisymm
-      (subst (λ (r : ℕ). first-of (length picture) ws r ≤ m) e (O .first m (omega arith) (omega arith) .low))
+      (subst (λ (r : ℕ). first-of (length picture) ws r ≤ m) (lowest-own q b) (O .first m (omega (arith, lowest-low q b)) .low))
       (first-in-le
       (length picture)
       s
@@ -229,14 +410,14 @@ module _ (w a : ℕ) (picture ws₀ : List ℕ) (start : Blank w a picture ws₀
       (omega (arith, F .low))
       (eq-eqb (root-of picture ws₀ (first-of (length picture) ws (root-of picture ws₀ q))) (root-of picture ws₀ q) (F .own)))
 
-  pub owning-end : (ws : List ℕ) (i : ℕ) → i ≤ 0 → Owning w a picture ws₀ ws i → Owned w a picture ws₀ ws
-  owning-end ws i none P =
-      let z : i ≡ 0 = omega arith in
-      let O : Owning w a picture ws₀ ws 0 = subst (λ (k : ℕ). Owning w a picture ws₀ ws k) z P in
+  pub owning-end : (ws counts : List ℕ) (i : ℕ) → length picture ≤ i → Owning w a picture ws₀ ws counts i → Owned w a picture ws₀ ws counts
+  owning-end ws counts i all P =
+      let z : i ≡ length picture = omega (arith, P .top) in
+      let O : Owning w a picture ws₀ ws counts (length picture) = subst (λ (k : ℕ). Owning w a picture ws₀ ws counts k) z P in
       record {
         words = O .words;
         kept = O .kept;
-        first = first-lowest ws O;
+        first = first-lowest ws counts O;
         held =
             λ r b.
             O .held r b
@@ -245,7 +426,9 @@ module _ (w a : ℕ) (picture ws₀ : List ℕ) (start : Blank w a picture ws₀
             (combined a)
             (nothing a)
             (single a w)
-            (from (root-of picture ws₀) 0 r)
+            (below (root-of picture ws₀) (length picture) r)
             (owned (grey picture) (parent-of ws₀) r)
-            (λ x c. ap (λ (t : Bool). t && eqb (root-of picture ws₀ x) r) (le-leb 0 x (omega arith)));
+            (λ x c. ap (λ (t : Bool). t && eqb (root-of picture ws₀ x) r) (lt-ltb x (length picture) c));
+        wide = O .wide;
+        nodes = O .nodes;
       }

@@ -1,4 +1,5 @@
--- A part of a list that is lent and comes back filled with one word, and the four parts of the scratch. Assumes nothing.
+-- A part of a list that is lent and comes back filled with one word, the four parts of the scratch, and the parts that are blank before
+-- the passes. Assumes nothing.
 use Prim.Native.Nat.{ℕ, _+_, _*_, _-_, _≤_, _<_}
 use mathlib.Core.List.{List, _++_}
 use mathlib.Core.Logic.{⊎-elim}
@@ -8,6 +9,8 @@ use lib.ListN.{getD, length, take, drop, replicate, length-append, length-replic
 use lib.Seq.{length-take-le, getD-take, getD-drop, getD-append-add, ext-getD}
 use borrow.Rule.Slice.PartMut.{midOf, putMid, mid-len, same-len-mid, take-put, drop-put}
 use Rattle.sets.proofs.Tests.{le-or-lt}
+use Rattle.max_tree.specs.Accumulators.{nothing}
+use Rattle.max_tree.specs.Passes.{Blanked}
 
 -- the entries from a up to e are v, the others as they were
 pub record Filled (a e v : ℕ) (xs ys : List ℕ) : Type 0 where
@@ -90,3 +93,14 @@ module _ (n : ℕ) (ws x₁ x₂ x₃ x₄ : List ℕ) (size : length ws ≡ 6 *
       ∙ sym (past (take (2 * n) ws) (replicate (4 * n) 0) (2 * n) k head l ∙ getD-replicate (4 * n) (k - 2 * n) 0 0 (omega arith)))
       (λ l. kept k l ∙ sym (List·getD-append (take (2 * n) ws) (replicate (4 * n) 0) 0 k (omega arith) ∙ getD-take (2 * n) ws k 0 l))
       (le-or-lt (2 * n) k))
+
+-- parts 2, 4 and 5 blank
+pub blanked : (n a : ℕ) (ws x₁ x₂ x₃ : List ℕ) → Filled n (2 * n) 0 ws x₁ → Filled (3 * n) (4 * n) n x₁ x₂ → Filled (4 * n) (5 * n) (nothing a) x₂ x₃ → Blanked n a ws x₃
+blanked n a ws x₁ x₂ x₃ f₁ f₂ f₃ =
+    record {
+      words = f₃ .words ∙ f₂ .words ∙ f₁ .words;
+      parents = λ q b. f₃ .before q (omega arith) ∙ f₂ .before q (omega arith) ∙ f₁ .before q b;
+      zero = λ q b. f₃ .before (n + q) (omega arith) ∙ f₂ .before (n + q) (omega arith) ∙ f₁ .inside (n + q) (omega arith) (omega arith);
+      unnoted = λ r b. f₃ .before (3 * n + r) (omega arith) ∙ f₂ .inside (3 * n + r) (omega arith) (omega arith);
+      blank = λ r b. f₃ .inside (4 * n + r) (omega arith) (omega arith);
+    }

@@ -1,357 +1,537 @@
 -- The pass that adds each node to its parent, in the order of part 3 from its end: what holds when the places from i on have been
 -- taken, one more of them, and the end. Assumes nothing.
 use Prim.Native.Nat.{ℕ, _+_, _*_, _-_, _≤_, _<_}
-use mathlib.Core.Bool.{true, false, _||_}
+use mathlib.Core.Bool.{true, false, cond, _&&_, _||_}
 use mathlib.Core.List.{List}
-use mathlib.Core.Logic.{inr, ⊎-elim}
+use mathlib.Core.Logic.{⊎-elim}
 use mathlib.Core.Path.{_≡_, refl, sym, ap, subst, _∙_}
 use native.Mathlib.Omega.{arith}
-use lib.Dec.{eqb, leb}
+use lib.Dec.{eqb, leb, ltb}
 use lib.ListN.{getD, length, set, length-set}
 use lib.Seq.{getD-set-same, getD-set-other}
-use borrow.Author.Tests.{eqb-true, eqb-false, eq-eqb, ne-eqb, leb-true, le-leb, lt-leb}
+use borrow.Author.Tests.{eqb-true, eqb-false, eq-eqb, ne-eqb, leb-true, le-leb, ltb-true, lt-ltb}
 use Rattle.sets.specs.Sets.{Positions}
 use Rattle.sets.specs.Gather.{first-in}
-use Rattle.sets.proofs.Tests.{same-truth, or-cases, or-left, or-right, le-or-lt}
+use Rattle.sets.proofs.Tests.{clash, is-false, same-truth, and-left, and-right, and-both, or-cases, or-left, or-right, le-or-lt}
 use Rattle.sets.proofs.Gather.{gather-ext, first-in-le, first-in-holds}
+use Rattle.connected.specs.Component.{Adjacency, Symmetric}
 use Rattle.opening.proofs.Levels.{cond-case}
+use Rattle.tree.specs.Forest.{Forest, Node-root, node-root}
+use Rattle.tree.proofs.Forest.{node-root-self, node-root-is}
+use Rattle.causes.proofs.Lists.{length-two}
 use Rattle.flood.specs.Levels.{grey}
-use Rattle.flood.proofs.Counts.{equal-or-not}
-use Rattle.max_tree.specs.Accumulators.{nothing, combined, gathered}
-use Rattle.max_tree.specs.Branches.{owned, branch, poured}
 use Rattle.flood.specs.Flooding.{parent-of, order-of}
-use Rattle.max_tree.specs.Passes.{held-of, Own-held, Pour, poured-at, Order, Pourable, Poured}
+use Rattle.flood.proofs.Counts.{equal-or-not}
+use Rattle.max_tree.specs.Accumulators.{nothing, combined, measured, gathered}
+use Rattle.max_tree.specs.Branches.{owned, branch, poured}
+use Rattle.max_tree.specs.Listing.{Listed}
+use Rattle.max_tree.specs.Passes.{word-of, roots, Own-held, Pour, poured-at, Pourable, Poured}
 use Rattle.max_tree.proofs.Accumulators.{gathered-small, bound-small, gathered-union}
-use Rattle.max_tree.proofs.Branches.{poured-all, poured-none, poured-other, poured-apart, poured-more}
+use Rattle.max_tree.proofs.Branches.{poured-all, poured-none, poured-own, poured-other, poured-apart, poured-more}
+use Rattle.max_tree.proofs.Stores.{read-one, read-two, read-else}
+use Rattle.max_tree.proofs.Listing.{listed-rises, listed-apart}
 
--- the place of c in an order of n pixels
+-- the place of c in a list of m pixels, m if it is not there
 abbrev pub place-of : ℕ → (ℕ → ℕ) → ℕ → ℕ
-place-of n ord c = first-in n (λ (j : ℕ). eqb (ord j) c)
+place-of m ord c = first-in m (λ (j : ℕ). eqb (ord j) c)
 
 -- the pixels whose places are i or more
 abbrev pub taken : ℕ → (ℕ → ℕ) → ℕ → Positions
-taken n ord i c = leb i (place-of n ord c)
+taken m ord i c = leb i (place-of m ord c) && ltb (place-of m ord c) m
 
-module _ (n : ℕ) (g ord : ℕ → ℕ) (order : Order n g ord) where
-  place-holds : (c : ℕ) → place-of n ord c < n → ord (place-of n ord c) ≡ c
-  place-holds c b = eqb-true (ord (place-of n ord c)) c (first-in-holds n (λ (j : ℕ). eqb (ord j) c) b)
+module _ (n m : ℕ) (g : ℕ → ℕ) (s : Positions) (ord : ℕ → ℕ) (order : Listed n m g s ord) where
+  place-holds : (c : ℕ) → place-of m ord c < m → ord (place-of m ord c) ≡ c
+  place-holds c b = eqb-true (ord (place-of m ord c)) c (first-in-holds m (λ (j : ℕ). eqb (ord j) c) b)
 
-  place-below : (c : ℕ) → c < n → place-of n ord c < n
-  place-below c b =
-      let (j, k, e) = order .place c b in
-      omega (arith, first-in-le n (λ (j : ℕ). eqb (ord j) c) j k (eq-eqb (ord j) c e))
+  place-le : (i : ℕ) → i < m → place-of m ord (ord i) ≤ i
+  place-le i b = first-in-le m (λ (j : ℕ). eqb (ord j) (ord i)) i b (eq-eqb (ord i) (ord i) refl)
 
-  place-at : (i : ℕ) → i < n → place-of n ord (ord i) ≡ i
+  place-below : (c : ℕ) → c < n → s c ≡ true → place-of m ord c < m
+  place-below c b t =
+      let (j, k, e) = order .place c b t in
+      omega (arith, first-in-le m (λ (j : ℕ). eqb (ord j) c) j k (eq-eqb (ord j) c e))
+
+  place-at : (i : ℕ) → i < m → place-of m ord (ord i) ≡ i
   place-at i b =
-      let l : place-of n ord (ord i) < n = place-below (ord i) (order .within i b) in
-      order .once (place-of n ord (ord i)) i l b (place-holds (ord i) l)
+      let p : ℕ = place-of m ord (ord i) in
+      let l : p ≤ i = place-le i b in
+      ⊎-elim (λ k. omega arith) (λ k. absurd (listed-apart order p i k b (place-holds (ord i) (omega arith)))) (le-or-lt i p)
 
-  -- nothing is taken at first
-  taken-none : (c : ℕ) → c < n → taken n ord n c ≡ false
-  taken-none c b = lt-leb n (place-of n ord c) (place-below c b)
+  taken-in : (i c : ℕ) → i ≤ place-of m ord c → place-of m ord c < m → taken m ord i c ≡ true
+  taken-in i c l b =
+      let p : ℕ = place-of m ord c in
+      and-both (leb i p) (ltb p m) (le-leb i p l) (lt-ltb p m b)
 
-  module _ (i : ℕ) (pos : 0 < i) (top : i ≤ n) where
-    taken-not : taken n ord i (ord (i - 1)) ≡ false
-    taken-not = lt-leb i (place-of n ord (ord (i - 1))) (omega (arith, place-at (i - 1) (omega arith)))
+  taken-holds : (i c : ℕ) → taken m ord i c ≡ true → (i ≤ place-of m ord c) × (place-of m ord c < m)
+  taken-holds i c e =
+      let p : ℕ = place-of m ord c in
+      (leb-true i p (and-left (leb i p) (ltb p m) e), ltb-true p m (and-right (leb i p) (ltb p m) e))
 
-    taken-more : (c : ℕ) → taken n ord (i - 1) c ≡ (taken n ord i c || eqb (ord (i - 1)) c)
+  -- nothing is taken at first, and everything at last
+  taken-none : (c : ℕ) → taken m ord m c ≡ false
+  taken-none c = is-false (taken m ord m c) (λ e. let (l, b) = taken-holds m c e in omega arith)
+
+  taken-all : (i c : ℕ) → i ≤ 0 → c < n → s c ≡ true → taken m ord i c ≡ true
+  taken-all i c none b t = taken-in i c (omega arith) (place-below c b t)
+
+  module _ (i : ℕ) (pos : 0 < i) (top : i ≤ m) where
+    taken-not : taken m ord i (ord (i - 1)) ≡ false
+    taken-not =
+        is-false
+        (taken m ord i (ord (i - 1)))
+        (λ e. let (l, b) = taken-holds i (ord (i - 1)) e in omega (arith, place-le (i - 1) (omega arith)))
+
+    taken-more : (c : ℕ) → taken m ord (i - 1) c ≡ (taken m ord i c || eqb (ord (i - 1)) c)
     taken-more c =
-        let p : ℕ = place-of n ord c in
+        let p : ℕ = place-of m ord c in
         same-truth
-        (taken n ord (i - 1) c)
-        (taken n ord i c || eqb (ord (i - 1)) c)
+        (taken m ord (i - 1) c)
+        (taken m ord i c || eqb (ord (i - 1)) c)
         (λ e.
-        let l : i - 1 ≤ p = leb-true (i - 1) p e in
+        let (l, b) = taken-holds (i - 1) c e in
         ⊎-elim
         (λ z.
-        or-right
-        (taken n ord i c)
-        (eqb (ord (i - 1)) c)
-        (eq-eqb (ord (i - 1)) c (ap ord z ∙ place-holds c (omega arith))))
-        (λ z. or-left (taken n ord i c) (eqb (ord (i - 1)) c) (le-leb i p (omega arith)))
+        or-right (taken m ord i c) (eqb (ord (i - 1)) c) (eq-eqb (ord (i - 1)) c (ap ord z ∙ place-holds c b)))
+        (λ z. or-left (taken m ord i c) (eqb (ord (i - 1)) c) (taken-in i c (omega arith) b))
         (equal-or-not (i - 1) p))
         (λ e.
         ⊎-elim
-        (λ f. le-leb (i - 1) p (omega (arith, leb-true i p f)))
+        (λ f. let (l, b) = taken-holds i c f in taken-in (i - 1) c (omega arith) b)
         (λ f.
-        le-leb
-        (i - 1)
-        p
-        (omega (arith, place-at (i - 1) (omega arith), ap (place-of n ord) (eqb-true (ord (i - 1)) c f))))
-        (or-cases (taken n ord i c) (eqb (ord (i - 1)) c) e))
+        let at : p ≡ i - 1 =
+        ap (place-of m ord) (sym (eqb-true (ord (i - 1)) c f)) ∙ place-at (i - 1) (omega arith) in
+        taken-in (i - 1) c (omega arith) (omega arith))
+        (or-cases (taken m ord i c) (eqb (ord (i - 1)) c) e))
 
-    -- what is brighter is taken before
-    taken-brighter : (c : ℕ) → c < n → g (ord (i - 1)) < g c → taken n ord i c ≡ true
-    taken-brighter c b l =
-        let p : ℕ = place-of n ord c in
-        let d : p < n = place-below c b in
+    -- what is brighter is taken before, what is darker later
+    taken-brighter : (c : ℕ) → c < n → s c ≡ true → g (ord (i - 1)) < g c → taken m ord i c ≡ true
+    taken-brighter c b t l =
+        let p : ℕ = place-of m ord c in
+        let d : p < m = place-below c b t in
+        let same : g (ord p) ≡ g c = ap g (place-holds c d) in
         ⊎-elim
-        (λ m. le-leb i p m)
-        (λ m. absurd (omega (arith, order .rising p (i - 1) (omega arith) (omega arith), ap g (place-holds c d))))
+        (λ k. taken-in i c k d)
+        (λ k.
+        ⊎-elim
+        (λ z. absurd (omega (arith, ap (λ (j : ℕ). g (ord j)) z)))
+        (λ z. absurd (omega (arith, listed-rises order p (i - 1) (omega arith) (omega arith))))
+        (equal-or-not p (i - 1)))
         (le-or-lt i p)
 
--- what one addition leaves
-pub poured-same : (a : ℕ) (picture : List ℕ) (q : ℕ) (ws : List ℕ) → grey picture (parent-of ws q) ≡ grey picture q → ws ≡ poured-at a picture q ws
-poured-same a picture q ws e = rw (eq-eqb (grey picture (parent-of ws q)) (grey picture q) e) refl
+    taken-darker : (c : ℕ) → g c < g (ord (i - 1)) → taken m ord i c ≡ false
+    taken-darker c l =
+        is-false
+        (taken m ord i c)
+        (λ e.
+        let (k, d) = taken-holds i c e in
+        omega (arith, ap g (place-holds c d), listed-rises order (i - 1) (place-of m ord c) (omega arith) d))
 
-pub poured-up : (a : ℕ) (picture : List ℕ) (q : ℕ) (ws : List ℕ) (y : ℕ) → (grey picture (parent-of ws q) ≡ grey picture q → ⊥) → y ≡ combined a (held-of (length picture) ws (parent-of ws q)) (held-of (length picture) ws q) → set ws (4 * length picture + parent-of ws q) y ≡ poured-at a picture q ws
-poured-up a picture q ws y ne e =
-    rw
-    (ne-eqb (grey picture (parent-of ws q)) (grey picture q) ne)
-    (ap (set ws (4 * length picture + parent-of ws q)) e)
+-- the word of the root r: its attribute once it is taken, before that the accumulator of what is poured into it
+abbrev pub turned : ℕ → ℕ → (ℕ → ℕ) → (ℕ → ℕ) → (ℕ → ℕ) → Positions → ℕ → ℕ
+turned a n v g par done r =
+    cond (done r) (measured a (gathered a n v (branch g par r))) (gathered a n v (poured g par done r))
 
-pub record Pouring (a : ℕ) (picture ws₀ ws : List ℕ) (i : ℕ) : Type 0 where
-  pub top : i ≤ length picture
+-- one place more, that of the root q
+module _ (a n m : ℕ) (adj : Adjacency) (symm : Symmetric adj) (g par ord : ℕ → ℕ) (forest : Forest n adj g par) (order : Listed n m g (λ (q : ℕ). eqb (node-root g par q) q) ord) (i q : ℕ) (pos : 0 < i) (top : i ≤ m) (is : q ≡ ord (i - 1)) where
+  abbrev done : Positions
+  done = taken m ord i
+
+  abbrev more : Positions
+  more = taken m ord (i - 1)
+
+  q-within : q < n
+  q-within = rw is (order .within (i - 1) (omega arith))
+
+  q-root : node-root g par q ≡ q
+  q-root =
+      eqb-true
+      (node-root g par q)
+      q
+      (subst (λ (k : ℕ). eqb (node-root g par k) k ≡ true) (sym is) (order .inside (i - 1) (omega arith)))
+
+  q-last : Node-root g par q
+  q-last = subst (Node-root g par) q-root (node-root-is n adj symm g par forest q q-within .2)
+
+  grown : (c : ℕ) → more c ≡ (done c || eqb q c)
+  grown c =
+      subst
+      (λ (k : ℕ). more c ≡ (done c || eqb k c))
+      (sym is)
+      (taken-more n m g (λ (q : ℕ). eqb (node-root g par q) q) ord order i pos top c)
+
+  out : done q ≡ false
+  out =
+      subst
+      (λ (k : ℕ). done k ≡ false)
+      (sym is)
+      (taken-not n m g (λ (q : ℕ). eqb (node-root g par q) q) ord order i pos top)
+
+  full : (c : ℕ) → c < n → g q < g c → Node-root g par c → done c ≡ true
+  full c b l last =
+      taken-brighter
+      n
+      m
+      g
+      (λ (q : ℕ). eqb (node-root g par q) q)
+      ord
+      order
+      i
+      pos
+      top
+      c
+      b
+      (eq-eqb (node-root g par c) c (node-root-self g par c last))
+      (subst (λ (k : ℕ). g k < g c) is l)
+
+  up-out : g (par q) < g q → done (par q) ≡ false
+  up-out dark =
+      taken-darker
+      n
+      m
+      g
+      (λ (q : ℕ). eqb (node-root g par q) q)
+      ord
+      order
+      i
+      pos
+      top
+      (par q)
+      (subst (λ (k : ℕ). g (par q) < g k) is dark)
+
+  more-q : more q ≡ true
+  more-q = grown q ∙ or-right (done q) (eqb q q) (eq-eqb q q refl)
+
+  more-else : (r : ℕ) → (q ≡ r → ⊥) → more r ≡ done r
+  more-else r ne =
+      same-truth
+      (more r)
+      (done r)
+      (λ e. ⊎-elim (λ t. t) (λ t. absurd (ne (eqb-true q r t))) (or-cases (done r) (eqb q r) (sym (grown r) ∙ e)))
+      (λ e. grown r ∙ or-left (done r) (eqb q r) e)
+
+  module _ (v : ℕ → ℕ) where
+    all-q : gathered a n v (poured g par done q) ≡ gathered a n v (branch g par q)
+    all-q =
+        gather-ext
+        n
+        (combined a)
+        (nothing a)
+        v
+        (poured g par done q)
+        (branch g par q)
+        (λ x c. poured-all n adj symm g par forest done q x q-within c q-last full)
+
+    before-q : turned a n v g par done q ≡ gathered a n v (branch g par q)
+    before-q = (rw out refl) ∙ all-q
+
+    after-q : turned a n v g par more q ≡ measured a (turned a n v g par done q)
+    after-q = (rw more-q refl) ∙ ap (measured a) (sym before-q)
+
+    after-up : g (par q) < g q → turned a n v g par more (par q) ≡ combined a (turned a n v g par done (par q)) (turned a n v g par done q)
+    after-up dark =
+        let u : ℕ = par q in
+        (rw (more-else u (λ e. omega (arith, ap g e)) ∙ up-out dark) refl)
+        ∙ gathered-union
+        a
+        n
+        v
+        (poured g par done u)
+        (branch g par q)
+        (poured g par more u)
+        (poured-apart n adj symm g par forest done more q q-within grown dark out)
+        (poured-more n adj symm g par forest done more q q-within grown dark)
+        ∙ sym (ap (combined a (gathered a n v (poured g par done u))) before-q)
+        ∙ ap (λ (k : ℕ). combined a k (turned a n v g par done q)) (sym (rw (up-out dark) refl))
+
+    after-else : (r : ℕ) → (q ≡ r → ⊥) → (par q ≡ r → ⊥) → turned a n v g par more r ≡ turned a n v g par done r
+    after-else r ne other =
+        rw
+        (more-else r ne)
+        (ap
+        (cond (done r) (measured a (gathered a n v (branch g par r))))
+        (gather-ext
+        n
+        (combined a)
+        (nothing a)
+        v
+        (poured g par more r)
+        (poured g par done r)
+        (λ x c. poured-other n adj symm g par forest done more q q-within grown r x c (λ z l. other z))))
+
+-- what one addition leaves: at the root of the tree, and at another root
+pub poured-last : (a n q : ℕ) (ws : List ℕ) (y : ℕ) → parent-of ws q ≡ q → y ≡ measured a (word-of n ws q) → set ws (n + q) y ≡ poured-at a n q ws
+poured-last a n q ws y own e = rw (eq-eqb (parent-of ws q) q own) (ap (set ws (n + q)) e)
+
+-- the parent's word is there
+pub up-room : (a n q : ℕ) (ws : List ℕ) (y : ℕ) → Pour a n q ws → n + parent-of ws q < length (set ws (n + q) y)
+up-room a n q ws y pre = rw (length-set ws (n + q) y) (omega (arith, pre .parent, pre .sized .words))
+
+module _ (a n q : ℕ) (ws : List ℕ) (y : ℕ) (ne : parent-of ws q ≡ q → ⊥) where
+  -- the parent's word, once that of q is written
+  pub up-read : word-of n (set ws (n + q) y) (parent-of ws q) ≡ word-of n ws (parent-of ws q)
+  up-read = getD-set-other ws (n + q) (n + parent-of ws q) y 0 (λ z. ne (omega arith))
+
+  pub poured-up : (z : ℕ) → y ≡ measured a (word-of n ws q) → z ≡ combined a (word-of n (set ws (n + q) y) (parent-of ws q)) (word-of n ws q) → set (set ws (n + q) y) (n + parent-of ws q) z ≡ poured-at a n q ws
+  poured-up z e f =
+      rw
+      (ne-eqb (parent-of ws q) q ne)
+      (ap (λ (k : ℕ). set (set ws (n + q) k) (n + parent-of ws q) z) e
+      ∙ ap
+      (set (set ws (n + q) (measured a (word-of n ws q))) (n + parent-of ws q))
+      (f ∙ ap (λ (k : ℕ). combined a k (word-of n ws q)) up-read))
+
+pub record Pouring (a : ℕ) (picture ws₀ : List ℕ) (m : ℕ) (ws : List ℕ) (i : ℕ) : Type 0 where
+  pub top : i ≤ m
   pub words : length ws ≡ length ws₀
-  pub kept : (k : ℕ) → k < 4 * length picture → getD ws k 0 ≡ getD ws₀ k 0
+  pub kept : (k : ℕ) → k < length picture → getD ws k 0 ≡ getD ws₀ k 0
+  pub rest : (k : ℕ) → 2 * length picture ≤ k → getD ws k 0 ≡ getD ws₀ k 0
+  pub others :
+      (q : ℕ) → q < length picture → roots picture ws₀ q ≡ false
+      → word-of (length picture) ws q ≡ word-of (length picture) ws₀ q
   pub held :
-      (v : ℕ → ℕ) → Own-held a picture ws₀ v → (r : ℕ) → r < length picture
-      → held-of (length picture) ws r
-      ≡ gathered
+      (v : ℕ → ℕ) → Own-held a picture ws₀ v → (r : ℕ) → r < length picture → roots picture ws₀ r ≡ true
+      → word-of (length picture) ws r
+      ≡ turned
       a
       (length picture)
       v
-      (poured (grey picture) (parent-of ws₀) (taken (length picture) (order-of (length picture) ws₀) i) r)
+      (grey picture)
+      (parent-of ws₀)
+      (taken m (order-of (length picture) ws₀) i)
+      r
 
-module _ (a : ℕ) (picture ws₀ : List ℕ) (start : Pourable a picture ws₀) where
-  pub pouring-none : Pouring a picture ws₀ ws₀ (length picture)
+module _ (a : ℕ) (picture ws₀ : List ℕ) (m : ℕ) (start : Pourable a picture ws₀ m) where
+  abbrev n : ℕ
+  n = length picture
+
+  abbrev g : ℕ → ℕ
+  g = grey picture
+
+  abbrev par : ℕ → ℕ
+  par = parent-of ws₀
+
+  abbrev ord : ℕ → ℕ
+  ord = order-of (length picture) ws₀
+
+  root-last : (r : ℕ) → r < n → roots picture ws₀ r ≡ true → Node-root g par r
+  root-last r b t =
+      subst (Node-root g par) (eqb-true (node-root g par r) r t) (node-root-is n (start .adj) (start .symm) g par (start .forest) r b .2)
+
+  pub pouring-none : Pouring a picture ws₀ m ws₀ m
   pouring-none =
       record {
         top = omega arith;
         words = refl;
         kept = λ k b. refl;
+        rest = λ k b. refl;
+        others = λ q b f. refl;
         held =
-            λ v own r b.
-            own r b
+            λ v own r b t.
+            own r b t
             ∙ sym
-            (gather-ext
-            (length picture)
+            ((rw (taken-none n m g (roots picture ws₀) ord (start .order) r) refl)
+            ∙ gather-ext
+            n
             (combined a)
             (nothing a)
             v
-            (poured (grey picture) (parent-of ws₀) (taken (length picture) (order-of (length picture) ws₀) (length picture)) r)
-            (owned (grey picture) (parent-of ws₀) r)
+            (poured g par (taken m ord m) r)
+            (owned g par r)
             (λ x c.
             poured-none
-            (length picture)
+            n
             (start .adj)
             (start .symm)
-            (grey picture)
-            (parent-of ws₀)
+            g
+            par
             (start .forest)
-            (taken (length picture) (order-of (length picture) ws₀) (length picture))
+            (taken m ord m)
             r
             x
             c
-            (taken-none (length picture) (grey picture) (order-of (length picture) ws₀) (start .order))));
+            (λ k d. taken-none n m g (roots picture ws₀) ord (start .order) k)));
       }
 
-  pub pouring-end : (ws : List ℕ) (i : ℕ) → i ≤ 0 → Pouring a picture ws₀ ws i → Poured a picture ws₀ ws
+  pub pouring-end : (ws : List ℕ) (i : ℕ) → i ≤ 0 → Pouring a picture ws₀ m ws i → Poured a picture ws₀ ws
   pouring-end ws i none P =
       record {
         words = P .words;
         kept = P .kept;
-        held =
-            λ v own r b root.
-            P .held v own r b
-            ∙ gather-ext
-            (length picture)
-            (combined a)
-            (nothing a)
-            v
-            (poured (grey picture) (parent-of ws₀) (taken (length picture) (order-of (length picture) ws₀) i) r)
-            (branch (grey picture) (parent-of ws₀) r)
-            (λ x c.
-            poured-all
-            (length picture)
-            (start .adj)
-            (start .symm)
-            (grey picture)
-            (parent-of ws₀)
-            (start .forest)
-            (taken (length picture) (order-of (length picture) ws₀) i)
-            r
-            x
-            b
-            c
-            root
-            (λ m d l. le-leb i (place-of (length picture) (order-of (length picture) ws₀) m) (omega arith)));
+        rest = P .rest;
+        others = P .others;
+        measures =
+            λ v own r b t.
+            P .held v own r b t ∙ (rw (taken-all n m g (roots picture ws₀) ord (start .order) i r none b t) refl);
       }
 
   -- one place more, that of the pixel q
-  module _ (ws : List ℕ) (i q : ℕ) (pos : 0 < i) (P : Pouring a picture ws₀ ws i) (is : q ≡ order-of (length picture) ws₀ (i - 1)) where
-    abbrev done : Positions
-    done = taken (length picture) (order-of (length picture) ws₀) i
-
-    abbrev more : Positions
-    more = taken (length picture) (order-of (length picture) ws₀) (i - 1)
-
-    abbrev up : ℕ
-    up = parent-of ws₀ q
-
-    within : q < length picture
+  module _ (ws : List ℕ) (i q : ℕ) (pos : 0 < i) (P : Pouring a picture ws₀ m ws i) (is : q ≡ ord (i - 1)) where
+    within : q < n
     within = rw is (start .order .within (i - 1) (omega (arith, P .top)))
 
-    same-parent : parent-of ws q ≡ up
-    same-parent = P .kept q (omega (arith, within))
-
-    up-within : up < length picture
+    up-within : par q < n
     up-within = start .forest .within q within
 
-    small : (r : ℕ) → r < length picture → held-of (length picture) ws r ≤ 16777215
-    small r b =
+    root : roots picture ws₀ q ≡ true
+    root =
+        subst
+        (λ (k : ℕ). roots picture ws₀ k ≡ true)
+        (sym is)
+        (start .order .inside (i - 1) (omega (arith, P .top)))
+
+    up-root : roots picture ws₀ (par q) ≡ true
+    up-root = eq-eqb (node-root g par (par q)) (par q) (node-root-self g par (par q) (start .forest .root q within))
+
+    same-parent : parent-of ws q ≡ par q
+    same-parent = P .kept q within
+
+    words : length ws ≡ 6 * n
+    words = P .words ∙ start .sized .words
+
+    not-taken : taken m ord i q ≡ false
+    not-taken = out a n m (start .adj) (start .symm) g par ord (start .forest) (start .order) i q pos (P .top) is
+
+    up-not-taken : g (par q) < g q → taken m ord i (par q) ≡ false
+    up-not-taken = up-out a n m (start .adj) (start .symm) g par ord (start .forest) (start .order) i q pos (P .top) is
+
+    -- the word of a root that is not taken
+    waiting : (r : ℕ) → r < n → roots picture ws₀ r ≡ true → taken m ord i r ≡ false → word-of n ws r ≡ gathered a n (start .value) (poured g par (taken m ord i) r)
+    waiting r b t f = P .held (start .value) (start .own) r b t ∙ (rw f refl)
+
+    small : (r : ℕ) → r < n → roots picture ws₀ r ≡ true → taken m ord i r ≡ false → word-of n ws r ≤ 16777215
+    small r b t f =
         rw
-        (P .held (start .value) (start .own) r b)
+        (waiting r b t f)
         (bound-small
         a
-        (length picture)
-        (gathered a (length picture) (start .value) (poured (grey picture) (parent-of ws₀) done r))
+        n
+        (gathered a n (start .value) (poured g par (taken m ord i) r))
         (start .sized .small)
-        (gathered-small a (length picture) (start .value) (poured (grey picture) (parent-of ws₀) done r) (start .small)))
+        (gathered-small a n (start .value) (poured g par (taken m ord i) r) (start .small)))
 
-    pub pour-asked : Pour picture q ws
+    small-up : word-of n ws (par q) ≤ 16777215
+    small-up =
+        ⊎-elim
+        (λ own. rw own (small q within root not-taken))
+        (λ dark. small (par q) up-within up-root (up-not-taken dark))
+        (root-last q within root)
+
+    pub pour-asked : Pour a n q ws
     pour-asked =
         record {
-          sized = record { words = P .words ∙ start .sized .words; small = start .sized .small };
+          sized = record { words = words; small = start .sized .small };
           within = within;
           parent = rw same-parent up-within;
-          small = small q within;
-          small-parent = small (parent-of ws q) (rw same-parent up-within);
+          small = small q within root not-taken;
+          small-parent = rw same-parent small-up;
+          ends =
+              rw
+              (waiting q within root not-taken)
+              (start .ends
+              (poured g par (taken m ord i) q)
+              q
+              within
+              (poured-own g par (taken m ord i) q q (eqb-true (node-root g par q) q root)));
         }
 
-    grown : (c : ℕ) → more c ≡ (done c || eqb q c)
-    grown c =
-        subst
-        (λ (k : ℕ). more c ≡ (done c || eqb k c))
-        (sym is)
-        (taken-more
-        (length picture)
-        (grey picture)
-        (order-of (length picture) ws₀)
-        (start .order)
-        i
-        pos
-        (P .top)
-        c)
+    abbrev measure : ℕ
+    measure = measured a (word-of n ws q)
 
-    out : done q ≡ false
-    out =
-        subst
-        (λ (k : ℕ). done k ≡ false)
-        (sym is)
-        (taken-not
-        (length picture)
-        (grey picture)
-        (order-of (length picture) ws₀)
-        (start .order)
-        i
-        pos
-        (P .top))
+    abbrev sum : ℕ
+    sum = combined a (word-of n ws (par q)) (word-of n ws q)
 
-    full : (c : ℕ) → c < length picture → grey picture q < grey picture c → done c ≡ true
-    full c b l =
-        taken-brighter
-        (length picture)
-        (grey picture)
-        (order-of (length picture) ws₀)
-        (start .order)
-        i
-        pos
-        (P .top)
-        c
-        b
-        (subst (λ (k : ℕ). grey picture k < grey picture c) is l)
+    held-q : (v : ℕ → ℕ) → Own-held a picture ws₀ v → measure ≡ turned a n v g par (taken m ord (i - 1)) q
+    held-q v own =
+        ap (measured a) (P .held v own q within root)
+        ∙ sym (after-q a n m (start .adj) (start .symm) g par ord (start .forest) (start .order) i q pos (P .top) is v)
 
-    -- a root that q adds nothing to
-    held-other : (v : ℕ → ℕ) → Own-held a picture ws₀ v → (r : ℕ) → r < length picture → (up ≡ r → grey picture r < grey picture q → ⊥) → held-of (length picture) ws r ≡ gathered a (length picture) v (poured (grey picture) (parent-of ws₀) more r)
-    held-other v own r b other =
-        P .held v own r b
-        ∙ sym
-        (gather-ext
-        (length picture)
-        (combined a)
-        (nothing a)
-        v
-        (poured (grey picture) (parent-of ws₀) more r)
-        (poured (grey picture) (parent-of ws₀) done r)
-        (λ x c. poured-other (length picture) (start .adj) (start .symm) (grey picture) (parent-of ws₀) (start .forest) done more q within grown r x c other))
-
-    -- the parent of q, where q is the root of a node
-    held-up : (v : ℕ → ℕ) → Own-held a picture ws₀ v → grey picture up < grey picture q → combined a (held-of (length picture) ws up) (held-of (length picture) ws q) ≡ gathered a (length picture) v (poured (grey picture) (parent-of ws₀) more up)
+    held-up : (v : ℕ → ℕ) → Own-held a picture ws₀ v → g (par q) < g q → sum ≡ turned a n v g par (taken m ord (i - 1)) (par q)
     held-up v own dark =
-        ap (λ (k : ℕ). combined a k (held-of (length picture) ws q)) (P .held v own up up-within)
-        ∙ ap
-        (combined a (gathered a (length picture) v (poured (grey picture) (parent-of ws₀) done up)))
-        (P .held v own q within
-        ∙ gather-ext
-        (length picture)
-        (combined a)
-        (nothing a)
-        v
-        (poured (grey picture) (parent-of ws₀) done q)
-        (branch (grey picture) (parent-of ws₀) q)
-        (λ x c. poured-all (length picture) (start .adj) (start .symm) (grey picture) (parent-of ws₀) (start .forest) done q x within c (inr dark) full))
-        ∙ sym
-        (gathered-union
-        a
-        (length picture)
-        v
-        (poured (grey picture) (parent-of ws₀) done up)
-        (branch (grey picture) (parent-of ws₀) q)
-        (poured (grey picture) (parent-of ws₀) more up)
-        (poured-apart (length picture) (start .adj) (start .symm) (grey picture) (parent-of ws₀) (start .forest) done more q within grown dark out)
-        (poured-more (length picture) (start .adj) (start .symm) (grey picture) (parent-of ws₀) (start .forest) done more q within grown dark))
+        ap (λ (k : ℕ). combined a k (word-of n ws q)) (P .held v own (par q) up-within up-root)
+        ∙ ap (combined a (turned a n v g par (taken m ord i) (par q))) (P .held v own q within root)
+        ∙ sym (after-up a n m (start .adj) (start .symm) g par ord (start .forest) (start .order) i q pos (P .top) is v dark)
 
-    step-same : eqb (grey picture (parent-of ws q)) (grey picture q) ≡ true → Pouring a picture ws₀ ws (i - 1)
-    step-same e =
+    held-else : (v : ℕ → ℕ) → Own-held a picture ws₀ v → (r : ℕ) → r < n → roots picture ws₀ r ≡ true → (q ≡ r → ⊥) → (par q ≡ r → ⊥) → word-of n ws r ≡ turned a n v g par (taken m ord (i - 1)) r
+    held-else v own r b t ne other =
+        P .held v own r b t
+        ∙ sym (after-else a n m (start .adj) (start .symm) g par ord (start .forest) (start .order) i q pos (P .top) is v r ne other)
+
+    -- a pixel that is no root is not the one whose word changes
+    no-root : (r k : ℕ) → roots picture ws₀ r ≡ false → roots picture ws₀ k ≡ true → n + r ≡ n + k → ⊥
+    no-root r k f t e =
+        let z : r ≡ k = omega arith in
+        clash (roots picture ws₀ r) (subst (λ (x : ℕ). roots picture ws₀ x ≡ true) (sym z) t) f
+
+    step-last : par q ≡ q → Pouring a picture ws₀ m (set ws (n + q) measure) (i - 1)
+    step-last last =
+        let room : n + q < length ws = omega (arith, within, words) in
         record {
           top = omega (arith, P .top);
-          words = P .words;
-          kept = P .kept;
+          words = length-set ws (n + q) measure ∙ P .words;
+          kept = λ k b. getD-set-other ws (n + q) k measure 0 (λ z. omega arith) ∙ P .kept k b;
+          rest = λ k b. getD-set-other ws (n + q) k measure 0 (λ z. omega (arith, within)) ∙ P .rest k b;
+          others = λ r b f. getD-set-other ws (n + q) (n + r) measure 0 (no-root r q f root) ∙ P .others r b f;
           held =
-              λ v own r b.
-              held-other
-              v
-              own
-              r
-              b
-              (λ z l.
-              omega
-              (arith, eqb-true (grey picture (parent-of ws q)) (grey picture q) e, ap (grey picture) (same-parent ∙ z)));
-        }
-
-    step-up : (p : ℕ) → p ≡ up → grey picture up < grey picture q → Pouring a picture ws₀ (set ws (4 * length picture + p) (combined a (held-of (length picture) ws p) (held-of (length picture) ws q))) (i - 1)
-    step-up p e dark =
-        let y : ℕ = combined a (held-of (length picture) ws p) (held-of (length picture) ws q) in
-        let room : 4 * length picture + p < length ws = omega (arith, up-within, P .words, start .sized .words) in
-        record {
-          top = omega (arith, P .top);
-          words = length-set ws (4 * length picture + p) y ∙ P .words;
-          kept = λ k b. getD-set-other ws (4 * length picture + p) k y 0 (λ z. omega arith) ∙ P .kept k b;
-          held =
-              λ v own r b.
+              λ v own r b t.
               ⊎-elim
               (λ z.
               subst
-              (λ (k : ℕ). held-of (length picture) (set ws (4 * length picture + p) y) k ≡ gathered a (length picture) v (poured (grey picture) (parent-of ws₀) more k))
-              (e ∙ z)
-              (getD-set-same ws (4 * length picture + p) y 0 room
-              ∙ ap (λ (k : ℕ). combined a (held-of (length picture) ws k) (held-of (length picture) ws q)) e
-              ∙ held-up v own dark
-              ∙ ap (λ (k : ℕ). gathered a (length picture) v (poured (grey picture) (parent-of ws₀) more k)) (sym e)))
+              (λ (k : ℕ). word-of n (set ws (n + q) measure) k ≡ turned a n v g par (taken m ord (i - 1)) k)
+              z
+              (getD-set-same ws (n + q) measure 0 room ∙ held-q v own))
               (λ ne.
-              getD-set-other ws (4 * length picture + p) (4 * length picture + r) y 0 (λ z. ne (omega arith))
-              ∙ held-other v own r b (λ z l. ne z))
-              (equal-or-not up r);
+              getD-set-other ws (n + q) (n + r) measure 0 (λ z. ne (omega arith))
+              ∙ held-else v own r b t ne (λ z. ne (sym last ∙ z)))
+              (equal-or-not q r);
         }
 
-    pub pouring-more : Pouring a picture ws₀ (poured-at a picture q ws) (i - 1)
-    pouring-more =
+    step-up : (par q ≡ q → ⊥) → g (par q) < g q → Pouring a picture ws₀ m (set (set ws (n + q) measure) (n + par q) sum) (i - 1)
+    step-up apart dark =
+        let room : n + q < length ws = omega (arith, within, words) in
+        let room-up : n + par q < length ws = omega (arith, up-within, words) in
+        let two : n + q ≡ n + par q → ⊥ = λ z. apart (omega arith) in
+        let else : (k : ℕ) → (k ≡ n + q → ⊥) → (k ≡ n + par q → ⊥) → getD (set (set ws (n + q) measure) (n + par q) sum) k 0 ≡ getD ws k 0 =
+        read-else ws (n + q) (n + par q) measure sum room room-up two in
+        record {
+          top = omega (arith, P .top);
+          words = length-two ws (n + q) measure (n + par q) sum ∙ P .words;
+          kept = λ k b. else k (λ z. omega arith) (λ z. omega arith) ∙ P .kept k b;
+          rest = λ k b. else k (λ z. omega (arith, within)) (λ z. omega (arith, up-within)) ∙ P .rest k b;
+          others = λ r b f. else (n + r) (no-root r q f root) (no-root r (par q) f up-root) ∙ P .others r b f;
+          held =
+              λ v own r b t.
+              ⊎-elim
+              (λ z.
+              subst
+              (λ (k : ℕ). word-of n (set (set ws (n + q) measure) (n + par q) sum) k ≡ turned a n v g par (taken m ord (i - 1)) k)
+              z
+              (read-one ws (n + q) (n + par q) measure sum room room-up two ∙ held-q v own))
+              (λ ne.
+              ⊎-elim
+              (λ z.
+              subst
+              (λ (k : ℕ). word-of n (set (set ws (n + q) measure) (n + par q) sum) k ≡ turned a n v g par (taken m ord (i - 1)) k)
+              z
+              (read-two ws (n + q) (n + par q) measure sum room room-up two ∙ held-up v own dark))
+              (λ other.
+              else (n + r) (λ z. ne (omega arith)) (λ z. other (omega arith)) ∙ held-else v own r b t ne other)
+              (equal-or-not (par q) r))
+              (equal-or-not q r);
+        }
+
+    step : Pouring a picture ws₀ m (cond (eqb (par q) q) (set ws (n + q) measure) (set (set ws (n + q) measure) (n + par q) sum)) (i - 1)
+    step =
         cond-case
-        (λ (l : List ℕ). Pouring a picture ws₀ l (i - 1))
-        (eqb (grey picture (parent-of ws q)) (grey picture q))
-        step-same
+        (λ (l : List ℕ). Pouring a picture ws₀ m l (i - 1))
+        (eqb (par q) q)
+        (λ e. step-last (eqb-true (par q) q e))
         (λ e.
-        let ne : grey picture up ≡ grey picture q → ⊥ =
-        λ z. eqb-false (grey picture (parent-of ws q)) (grey picture q) e (ap (grey picture) same-parent ∙ z) in
-        step-up (parent-of ws q) same-parent (omega (arith, start .forest .dim q within)))
+        let apart : par q ≡ q → ⊥ = eqb-false (par q) q e in
+        step-up apart (⊎-elim (λ own. absurd (apart own)) (λ dark. dark) (root-last q within root)))
+
+    pub pouring-more : Pouring a picture ws₀ m (poured-at a n q ws) (i - 1)
+    pouring-more =
+        subst
+        (λ (p : ℕ). Pouring a picture ws₀ m (cond (eqb p q) (set ws (n + q) measure) (set (set ws (n + q) measure) (n + p) (combined a (word-of n ws p) (word-of n ws q)))) (i - 1))
+        (sym same-parent)
+        step

@@ -1,11 +1,14 @@
--- What two stores to a list do to its entries, and the node root that is read from the words. Assumes nothing.
-use Prim.Native.Nat.{ℕ, _<_}
+-- What two stores to a list do to its entries, a count with one position more, and the node root that is read from the words. Assumes
+-- nothing.
+use Prim.Native.Nat.{ℕ, _+_, _<_}
 use mathlib.Core.Bool.{cond}
 use mathlib.Core.List.{List}
-use mathlib.Core.Path.{_≡_, ap, _∙_}
+use mathlib.Core.Path.{_≡_, refl, ap, _∙_}
+use native.Mathlib.Numerals.{add-one}
 use lib.Dec.{eqb}
 use lib.ListN.{getD, length, set, length-set}
 use lib.Seq.{getD-set-same, getD-set-other}
+use Rattle.sets.specs.Sets.{Positions, count}
 use Rattle.opening.proofs.Levels.{cond-case}
 use Rattle.tree.specs.Forest.{node-root}
 use Rattle.flood.specs.Levels.{grey}
@@ -23,9 +26,6 @@ module _ (xs : List ℕ) (i j u v : ℕ) (b : i < length xs) (c : j < length xs)
   pub read-else : (k : ℕ) → (k ≡ i → ⊥) → (k ≡ j → ⊥) → getD (set (set xs i u) j v) k 0 ≡ getD xs k 0
   read-else k d e = getD-set-other (set xs i u) j k v 0 e ∙ getD-set-other xs i k u 0 d
 
-  pub length-two : length (set (set xs i u) j v) ≡ length xs
-  length-two = length-set (set xs i u) j v ∙ length-set xs i u
-
 -- the node root that is read at q, where the words at q are the same
 pub root-read : (picture ws ws₀ : List ℕ) (q r : ℕ) → getD ws q 0 ≡ getD ws₀ q 0 → r ≡ cond (eqb (grey picture (getD ws q 0)) (grey picture q)) (getD ws q 0) q → r ≡ root-of picture ws₀ q
 unfolding node-root
@@ -40,3 +40,8 @@ root-within picture ws q b c =
 pub root-same : (picture ws ws₀ : List ℕ) (q : ℕ) → parent-of ws q ≡ parent-of ws₀ q → root-of picture ws q ≡ root-of picture ws₀ q
 unfolding node-root
 root-same picture ws ws₀ q e = ap (λ (p : ℕ). cond (eqb (grey picture p) (grey picture q)) p q) e
+
+-- one position more
+pub count-next : (q : ℕ) (s : Positions) → count (q + 1) s ≡ cond (s q) 1 0 + count q s
+unfolding count
+count-next q s = rw add-one refl

@@ -6,11 +6,11 @@ use mathlib.Core.Path.{_≡_}
 use lib.ListN.{length, take}
 use Rattle.grid.specs.Neighbours.{edge-neighbours}
 use Rattle.grid.specs.Attributes.{attribute}
-use Rattle.tree.specs.Tree.{parents, attributes, number-of-nodes}
+use Rattle.tree.specs.Tree.{parents, attributes, is-representative, number-of-nodes}
 use Rattle.causes.specs.Sides.{sides-fit}
 use Rattle.calls.specs.Calls.{grey, record-of}
 use Rattle.flood.specs.Flooding.{order-of}
-use Rattle.max_tree.specs.Passes.{Order}
+use Rattle.max_tree.specs.Listing.{Listed}
 
 -- the sides fit, the picture has a byte for each pixel and the workspace six words
 pub record Buildable (w h : ℕ) (picture ws : List ℕ) : Type 0 where
@@ -18,13 +18,13 @@ pub record Buildable (w h : ℕ) (picture ws : List ℕ) : Type 0 where
   pub bytes : length picture ≡ w * h
   pub words : length ws ≡ 6 * (w * h)
 
--- the record in parts 1 and 2, and every pixel once in part 3, in the order of the greys; n pixels
+-- the record in parts 1 and 2, and the representatives at the start of part 3, by rising level; n pixels
 pub record Ordered (n w a : ℕ) (picture ws : List ℕ) (nodes : ℕ) : Type 0 where
   pub words : length ws ≡ 6 * n
   pub tree :
       take (2 * n) ws
       ≡ parents n (edge-neighbours w) (grey picture) ++ attributes n (edge-neighbours w) (attribute w n a) (grey picture)
-  pub order : Order n (grey picture) (order-of n ws)
+  pub order : Listed n nodes (grey picture) (is-representative n (edge-neighbours w) (grey picture)) (order-of n ws)
   pub number : nodes ≡ number-of-nodes n (edge-neighbours w) (grey picture)
 
 -- the whole record

@@ -1,7 +1,8 @@
--- What the passes ask and leave, on the lists that they are lent: part 1 the parent words, part 3 the order, part 4 the lowest own
--- pixel of each node, part 5 its accumulator, both at the node's root.
+-- What the passes ask and leave, on the lists that they are lent: part 1 the parent words, part 2 the accumulators and then the
+-- attributes, part 3 the list of the representatives, part 4 the lowest own pixel of each node and part 5 the accumulator of its own
+-- pixels, both at the node's root.
 use Prim.Native.Nat.{ℕ, _+_, _*_, _≤_, _<_}
-use mathlib.Core.Bool.{Bool, true, cond}
+use mathlib.Core.Bool.{Bool, true, false, cond}
 use mathlib.Core.List.{List}
 use mathlib.Core.Path.{_≡_}
 use lib.Dec.{eqb}
@@ -11,12 +12,16 @@ use Rattle.connected.specs.Component.{Adjacency, Symmetric}
 use Rattle.grid.specs.Attributes.{side}
 use Rattle.tree.specs.Forest.{Forest, Node-root, node-root, lowest}
 use Rattle.flood.specs.Levels.{grey}
-use Rattle.flood.specs.Flooding.{parent-of, order-of}
+use Rattle.flood.specs.Flooding.{parent-of, order-of, darker}
 use Rattle.flood.specs.Calls.{Sized}
 use Rattle.max_tree.specs.Accumulators.{nothing, single, combined, measured, gathered, bound, In-order}
 use Rattle.max_tree.specs.Branches.{owned, branch}
+use Rattle.max_tree.specs.Listing.{Listed}
 
--- the words of part 4 and part 5
+-- the words of part 2, part 4 and part 5
+abbrev pub word-of : ℕ → List ℕ → ℕ → ℕ
+word-of n ws q = getD ws (n + q) 0
+
 abbrev pub first-of : ℕ → List ℕ → ℕ → ℕ
 first-of n ws r = getD ws (3 * n + r) 0
 
@@ -31,16 +36,55 @@ root-of picture ws q = node-root (grey picture) (parent-of ws) q
 abbrev pub lowest-of : List ℕ → List ℕ → ℕ → ℕ
 lowest-of picture ws r = lowest (length picture) (grey picture) (parent-of ws) r
 
--- part 5 holds the accumulator of no pixel, and rows and columns are short
+-- q is the lowest own pixel of its node
+abbrev pub lowest-own-pixel : List ℕ → List ℕ → Positions
+lowest-own-pixel picture ws q = eqb (lowest-of picture ws (root-of picture ws q)) q
+
+-- the level of the node that q represents, 256 if it represents none
+abbrev pub node-level : List ℕ → List ℕ → ℕ → ℕ
+node-level picture ws q = cond (lowest-own-pixel picture ws q) (grey picture q) 256
+
+-- part 2 is zero, no pixel is noted in part 4, part 5 holds the accumulator of no pixel, and part 1 is as it was
+pub record Blanked (n a : ℕ) (ws ws' : List ℕ) : Type 0 where
+  pub words : length ws' ≡ length ws
+  pub parents : (q : ℕ) → q < n → parent-of ws' q ≡ parent-of ws q
+  pub zero : (q : ℕ) → q < n → word-of n ws' q ≡ 0
+  pub unnoted : (r : ℕ) → r < n → first-of n ws' r ≡ n
+  pub blank : (r : ℕ) → r < n → held-of n ws' r ≡ nothing a
+
+-- no pixel is noted in part 4, part 5 holds the accumulator of no pixel, and rows and columns are short
 pub record Blank (w a : ℕ) (picture ws : List ℕ) : Type 0 where
   pub sized : Sized (length picture) ws
+  pub bytes : (x : ℕ) → grey picture x < 256
   pub columns : 0 < w
   pub short : (q : ℕ) → q < length picture → side w a q ≤ 4095
   pub within : (q : ℕ) → q < length picture → parent-of ws q < length picture
+  pub unnoted : (r : ℕ) → r < length picture → first-of (length picture) ws r ≡ length picture
   pub blank : (r : ℕ) → r < length picture → held-of (length picture) ws r ≡ nothing a
 
--- the lowest own pixel of each node, and the accumulator of its own pixels
-pub record Owned (w a : ℕ) (picture ws ws' : List ℕ) : Type 0 where
+-- q and the root r of its node are pixels, and the count of its level is small
+pub record Noting (picture : List ℕ) (q r : ℕ) (ws counts : List ℕ) : Type 0 where
+  pub sized : Sized (length picture) ws
+  pub within : q < length picture
+  pub root : r < length picture
+  pub level : grey picture q < 256
+  pub wide : length counts ≡ 256
+  pub few : getD counts (grey picture q) 0 ≤ length picture
+
+-- no own pixel of the node whose root is r is noted
+abbrev pub unmet : List ℕ → ℕ → List ℕ → Bool
+unmet picture r ws = eqb (first-of (length picture) ws r) (length picture)
+
+-- the workspace and the counts once q is noted as the first own pixel of the node whose root is r, unless one is noted
+abbrev pub noted-at : List ℕ → ℕ → ℕ → List ℕ → List ℕ
+noted-at picture q r ws = cond (unmet picture r ws) (set ws (3 * length picture + r) q) ws
+
+abbrev pub counted-at : List ℕ → ℕ → ℕ → List ℕ → List ℕ → List ℕ
+counted-at picture q r ws counts =
+    cond (unmet picture r ws) (set counts (grey picture q) (getD counts (grey picture q) 0 + 1)) counts
+
+-- the lowest own pixel of each node, and the accumulator of its own pixels; and how many nodes each level has
+pub record Owned (w a : ℕ) (picture ws ws' counts : List ℕ) : Type 0 where
   pub words : length ws' ≡ length ws
   pub kept : (k : ℕ) → k < 3 * length picture → getD ws' k 0 ≡ getD ws k 0
   pub first :
@@ -50,103 +94,65 @@ pub record Owned (w a : ℕ) (picture ws ws' : List ℕ) : Type 0 where
       (r : ℕ) → r < length picture
       → held-of (length picture) ws' r
       ≡ gathered a (length picture) (single a w) (owned (grey picture) (parent-of ws) r)
+  pub wide : length counts ≡ 256
+  pub nodes :
+      (l : ℕ) → l < 256
+      → getD counts l 0 ≡ count (length picture) (λ (q : ℕ). eqb (node-level picture ws q) l)
 
--- q and its parent word are pixels, and their accumulators are small
-pub record Pour (picture : List ℕ) (q : ℕ) (ws : List ℕ) : Type 0 where
-  pub sized : Sized (length picture) ws
-  pub within : q < length picture
-  pub parent : parent-of ws q < length picture
-  pub small : held-of (length picture) ws q ≤ 16777215
-  pub small-parent : held-of (length picture) ws (parent-of ws q) ≤ 16777215
-
--- the workspace once the accumulator of q is added to that of its parent
-abbrev pub poured-at : ℕ → List ℕ → ℕ → List ℕ → List ℕ
-poured-at a picture q ws =
-    cond
-    (eqb (grey picture (parent-of ws q)) (grey picture q))
-    ws
-    (set
-    ws
-    (4 * length picture + parent-of ws q)
-    (combined a (held-of (length picture) ws (parent-of ws q)) (held-of (length picture) ws q)))
-
--- part 5 holds at each root the accumulator of the own pixels, where a pixel's accumulator is v
-abbrev pub Own-held : ℕ → List ℕ → List ℕ → (ℕ → ℕ) → Type 0
-Own-held a picture ws v =
-    (r : ℕ) → r < length picture
-    → held-of (length picture) ws r ≡ gathered a (length picture) v (owned (grey picture) (parent-of ws) r)
-
--- every pixel once, in the order of the greys
-pub record Order (n : ℕ) (g ord : ℕ → ℕ) : Type 0 where
-  pub within : (i : ℕ) → i < n → ord i < n
-  pub place : (q : ℕ) → q < n → (i : ℕ) × (i < n) × (ord i ≡ q)
-  pub once : (i j : ℕ) → i < n → j < n → ord i ≡ ord j → i ≡ j
-  pub rising : (i j : ℕ) → i ≤ j → j < n → g (ord i) ≤ g (ord j)
-
--- part 1 holds the parent words of a forest, part 3 the order, and part 5 the accumulators of the own pixels
-pub record Pourable (a : ℕ) (picture ws : List ℕ) : Type 0 where
-  pub sized : Sized (length picture) ws
-  pub adj : Adjacency
-  pub symm : Symmetric adj
-  pub forest : Forest (length picture) adj (grey picture) (parent-of ws)
-  pub order : Order (length picture) (grey picture) (order-of (length picture) ws)
-  pub value : ℕ → ℕ
-  pub small : (q : ℕ) → q < length picture → value q ≤ bound a 1
-  pub own : Own-held a picture ws value
-
--- part 5 holds at each root the accumulator of the node
-pub record Poured (a : ℕ) (picture ws ws' : List ℕ) : Type 0 where
-  pub words : length ws' ≡ length ws
-  pub kept : (k : ℕ) → k < 4 * length picture → getD ws' k 0 ≡ getD ws k 0
-  pub held :
-      (v : ℕ → ℕ) → Own-held a picture ws v → (r : ℕ) → r < length picture
-      → Node-root (grey picture) (parent-of ws) r
-      → held-of (length picture) ws' r ≡ gathered a (length picture) v (branch (grey picture) (parent-of ws) r)
-
--- q is the lowest own pixel of its node
+-- q is noted as the lowest own pixel of its node
 abbrev pub is-first : List ℕ → ℕ → List ℕ → Bool
 is-first picture q ws = eqb (first-of (length picture) ws (root-of picture ws q)) q
 
--- the words that are read for q are those of pixels, and its node's accumulator has its two ends in order
-pub record Writable (a : ℕ) (picture : List ℕ) (q : ℕ) (ws : List ℕ) : Type 0 where
+-- the words that are read for q are those of pixels, and there is room in part 3 for a representative of its level
+pub record Writable (picture : List ℕ) (q : ℕ) (ws tails : List ℕ) : Type 0 where
   pub sized : Sized (length picture) ws
   pub within : q < length picture
+  pub level : grey picture q < 256
+  pub wide : length tails ≡ 256
   pub parent : parent-of ws q < length picture
   pub up : is-first picture q ws ≡ true → parent-of ws (root-of picture ws q) < length picture
-  pub ends : In-order a (held-of (length picture) ws (root-of picture ws q))
+  pub room : is-first picture q ws ≡ true → getD tails (grey picture q) 0 < length picture
 
--- the workspace once the words of q are written: those of a representative, or of another pixel
-abbrev pub first-written : ℕ → List ℕ → ℕ → List ℕ → ℕ → List ℕ
-first-written a picture q ws r =
+-- the workspace once the words of q are written: those of a representative, which is put at the place t of part 3, or of another pixel
+abbrev pub first-written : List ℕ → ℕ → List ℕ → ℕ → ℕ → List ℕ
+first-written picture q ws r t =
     set
+    (set
     (set ws q (first-of (length picture) ws (parent-of ws r)))
     (length picture + q)
-    (measured a (held-of (length picture) ws r))
+    (held-of (length picture) ws r))
+    (2 * length picture + t)
+    q
 
 abbrev pub other-written : List ℕ → ℕ → List ℕ → ℕ → List ℕ
-other-written picture q ws r = set (set ws q (first-of (length picture) ws r)) (length picture + q) 0
+other-written picture q ws r = set ws q (first-of (length picture) ws r)
 
-abbrev pub written-at : ℕ → List ℕ → ℕ → List ℕ → List ℕ
-written-at a picture q ws =
+abbrev pub written-at : List ℕ → ℕ → List ℕ → List ℕ → List ℕ
+written-at picture q ws tails =
     cond
     (is-first picture q ws)
-    (first-written a picture q ws (root-of picture ws q))
+    (first-written picture q ws (root-of picture ws q) (getD tails (grey picture q) 0))
     (other-written picture q ws (root-of picture ws q))
 
--- part 1 holds the parent words of a forest, part 4 the lowest own pixels, part 5 the accumulators of the nodes
-pub record Recordable (a : ℕ) (picture ws : List ℕ) : Type 0 where
+-- the ends of the levels' runs in part 3
+abbrev pub tails-at : List ℕ → ℕ → List ℕ → List ℕ → List ℕ
+tails-at picture q ws tails =
+    cond (is-first picture q ws) (set tails (grey picture q) (getD tails (grey picture q) 0 + 1)) tails
+
+-- part 1 holds the parent words of a forest, part 2 zeros, part 4 the lowest own pixels, and each level's run starts after the darker nodes
+pub record Recordable (picture ws starts : List ℕ) : Type 0 where
   pub sized : Sized (length picture) ws
+  pub bytes : (x : ℕ) → grey picture x < 256
   pub within : (q : ℕ) → q < length picture → parent-of ws q < length picture
   pub root : (q : ℕ) → q < length picture → Node-root (grey picture) (parent-of ws) (parent-of ws q)
   pub first :
       (q : ℕ) → q < length picture
       → first-of (length picture) ws (root-of picture ws q) ≡ lowest-of picture ws (root-of picture ws q)
-  pub ends : (q : ℕ) → q < length picture → In-order a (held-of (length picture) ws (root-of picture ws q))
+  pub zero : (q : ℕ) → q < length picture → word-of (length picture) ws q ≡ 0
+  pub wide : length starts ≡ 256
+  pub run-starts : (l : ℕ) → l < 256 → getD starts l 0 ≡ darker (length picture) (node-level picture ws) l
 
--- the words of the record in terms of what was in the workspace
-abbrev pub lowest-own-pixel : List ℕ → List ℕ → Positions
-lowest-own-pixel picture ws q = eqb (lowest-of picture ws (root-of picture ws q)) q
-
+-- the words of the record in terms of what was in the workspace; a node's word is still the accumulator of its own pixels
 abbrev pub new-parent : List ℕ → List ℕ → ℕ → ℕ
 new-parent picture ws q =
     cond
@@ -154,13 +160,68 @@ new-parent picture ws q =
     (lowest-of picture ws (parent-of ws (root-of picture ws q)))
     (lowest-of picture ws (root-of picture ws q))
 
-abbrev pub new-attribute : ℕ → List ℕ → List ℕ → ℕ → ℕ
-new-attribute a picture ws q =
-    cond (lowest-own-pixel picture ws q) (measured a (held-of (length picture) ws (root-of picture ws q))) 0
+abbrev pub new-word : List ℕ → List ℕ → ℕ → ℕ
+new-word picture ws q = cond (lowest-own-pixel picture ws q) (held-of (length picture) ws (root-of picture ws q)) 0
 
-pub record Recorded (a : ℕ) (picture ws ws' : List ℕ) (nodes : ℕ) : Type 0 where
+pub record Recorded (picture ws ws' : List ℕ) (nodes : ℕ) : Type 0 where
   pub words : length ws' ≡ length ws
   pub parents : (q : ℕ) → q < length picture → getD ws' q 0 ≡ new-parent picture ws q
-  pub attributes : (q : ℕ) → q < length picture → getD ws' (length picture + q) 0 ≡ new-attribute a picture ws q
-  pub kept : (k : ℕ) → 2 * length picture ≤ k → getD ws' k 0 ≡ getD ws k 0
+  pub held : (q : ℕ) → q < length picture → word-of (length picture) ws' q ≡ new-word picture ws q
+  pub order : Listed (length picture) nodes (grey picture) (lowest-own-pixel picture ws) (order-of (length picture) ws')
   pub number : nodes ≡ count (length picture) (lowest-own-pixel picture ws)
+
+-- q and its parent word are pixels, and their accumulators are small; that of q has its two ends in order
+pub record Pour (a n q : ℕ) (ws : List ℕ) : Type 0 where
+  pub sized : Sized n ws
+  pub within : q < n
+  pub parent : parent-of ws q < n
+  pub small : word-of n ws q ≤ 16777215
+  pub small-parent : word-of n ws (parent-of ws q) ≤ 16777215
+  pub ends : In-order a (word-of n ws q)
+
+-- the workspace once the accumulator of q is added to that of its parent and its attribute stands in its place
+abbrev pub poured-at : ℕ → ℕ → ℕ → List ℕ → List ℕ
+poured-at a n q ws =
+    cond
+    (eqb (parent-of ws q) q)
+    (set ws (n + q) (measured a (word-of n ws q)))
+    (set
+    (set ws (n + q) (measured a (word-of n ws q)))
+    (n + parent-of ws q)
+    (combined a (word-of n ws (parent-of ws q)) (word-of n ws q)))
+
+-- q is the root of its node
+abbrev pub roots : List ℕ → List ℕ → Positions
+roots picture ws q = eqb (root-of picture ws q) q
+
+-- part 2 holds at each root the accumulator of the own pixels, where a pixel's accumulator is v
+abbrev pub Own-held : ℕ → List ℕ → List ℕ → (ℕ → ℕ) → Type 0
+Own-held a picture ws v =
+    (r : ℕ) → r < length picture → roots picture ws r ≡ true
+    → word-of (length picture) ws r ≡ gathered a (length picture) v (owned (grey picture) (parent-of ws) r)
+
+-- part 1 holds the parent words of a forest, part 2 the accumulators of the own pixels, part 3 a list of the m roots
+pub record Pourable (a : ℕ) (picture ws : List ℕ) (m : ℕ) : Type 0 where
+  pub sized : Sized (length picture) ws
+  pub adj : Adjacency
+  pub symm : Symmetric adj
+  pub forest : Forest (length picture) adj (grey picture) (parent-of ws)
+  pub few : m ≤ length picture
+  pub order : Listed (length picture) m (grey picture) (roots picture ws) (order-of (length picture) ws)
+  pub value : ℕ → ℕ
+  pub small : (q : ℕ) → q < length picture → value q ≤ bound a 1
+  pub ends :
+      (s : Positions) (q : ℕ) → q < length picture → s q ≡ true → In-order a (gathered a (length picture) value s)
+  pub own : Own-held a picture ws value
+
+-- part 2 holds at each root the attribute of the node
+pub record Poured (a : ℕ) (picture ws ws' : List ℕ) : Type 0 where
+  pub words : length ws' ≡ length ws
+  pub kept : (k : ℕ) → k < length picture → getD ws' k 0 ≡ getD ws k 0
+  pub rest : (k : ℕ) → 2 * length picture ≤ k → getD ws' k 0 ≡ getD ws k 0
+  pub others :
+      (q : ℕ) → q < length picture → roots picture ws q ≡ false
+      → word-of (length picture) ws' q ≡ word-of (length picture) ws q
+  pub measures :
+      (v : ℕ → ℕ) → Own-held a picture ws v → (r : ℕ) → r < length picture → roots picture ws r ≡ true
+      → word-of (length picture) ws' r ≡ measured a (gathered a (length picture) v (branch (grey picture) (parent-of ws) r))

@@ -4,15 +4,15 @@ ghost use mathlib.Core.List.{_++_};
 ghost use mathlib.Core.Path.{_≡_};
 ghost use Prim.Native.Nat.{_*_};
 ghost use lib.ListN.{length, take, replicate};
-ghost use Rattle.calls.specs.Judging.{build-verdict};
-ghost use Rattle.calls.specs.Calls.{built, call-workspace};
+ghost use Rattle.calls.specs.Judging.{build-verdict, verdict-number};
+ghost use Rattle.calls.specs.Calls.{built, built-number, call-workspace};
 ghost use Rattle.flood.specs.Calls.{Sized};
 ghost use Rattle.max_tree.specs.Building.{Buildable, Ordered, Whole};
 
 mod passes;
 mod words;
 
-// The record in parts 1 and 2, with the pixels in the order of their greys in part 3. Answers the number of nodes.
+// The record in parts 1 and 2, with the representatives by rising level in part 3. Answers the number of nodes.
 pub fn build_ordered(
     picture: &[u8],
     width: u32,
@@ -25,12 +25,13 @@ pub fn build_ordered(
 {
     let w = width as usize;
     let n = w * (height as usize);
-    let blank = words::none(attribute);
     flood::flood(picture, w, workspace);
-    passes::fill(&mut workspace[4 * n..5 * n], blank);
-    passes::own_pixels(picture, w, attribute, workspace);
-    passes::descendants(picture, attribute, workspace);
-    passes::write_record(picture, attribute, workspace) as u32
+    passes::blank_parts(n, attribute, workspace);
+    let counts = passes::own_pixels(picture, w, attribute, workspace);
+    let starts = flood::run_starts(counts);
+    let nodes = passes::write_record(picture, starts, workspace);
+    passes::descendants(picture, attribute, nodes, workspace);
+    nodes as u32
 }
 
 // Zeroes parts 3 to 6 of a workspace with n words to a part.
@@ -38,10 +39,10 @@ pub fn clear_scratch(n: usize, workspace: &mut [u32])
     requires { ⌜ Sized n (now workspace) ⌝ }
     ensures { λ _. ⌜ now (workspace .exit) ≡ take (2 * n) (now (workspace .entry)) ++ replicate (4 * n) 0 ⌝ }
 {
-    passes::fill(&mut workspace[2 * n..3 * n], 0);
-    passes::fill(&mut workspace[3 * n..4 * n], 0);
-    passes::fill(&mut workspace[4 * n..5 * n], 0);
-    passes::fill(&mut workspace[5 * n..6 * n], 0);
+    flood::fill(&mut workspace[2 * n..3 * n], 0);
+    flood::fill(&mut workspace[3 * n..4 * n], 0);
+    flood::fill(&mut workspace[4 * n..5 * n], 0);
+    flood::fill(&mut workspace[5 * n..6 * n], 0);
 }
 
 // The whole record, with zero scratch. Answers the number of nodes.
@@ -69,6 +70,7 @@ pub fn build(
     workspace: &mut [u32],
 ) -> calls::Built
     ensures { λ r. ⌜ r ≡ built width height attribute (now (picture .entry)) (now (workspace .entry)) ⌝ }
+    ensures { λ r. ⌜ built-number r ≡ verdict-number (build-verdict width height attribute (length (now (picture .entry))) (length (now (workspace .entry)))) ⌝ }
     ensures { λ _. ⌜ now (workspace .exit) ≡ call-workspace (build-verdict width height attribute (length (now (picture .entry))) (length (now (workspace .entry)))) width height attribute (now (picture .entry)) (now (workspace .entry)) ⌝ }
 {
     let verdict = calls::judge(

@@ -1,23 +1,24 @@
 // The passes over the workspace that turn what the flood leaves into the record of the tree. Part 4 holds the lowest own pixel of
-// each node, part 5 its accumulator, both at the node's root.
+// each node and part 5 the accumulator of its own pixels, both at the node's root; part 3 receives the representatives by rising level.
 ghost use mathlib.Core.Bool.{cond};
 ghost use mathlib.Core.Path.{_≡_};
 ghost use Prim.Native.Nat.{ℕ, _<_};
 ghost use lib.Dec.{eqb};
 ghost use lib.ListN.{getD, length};
 ghost use Rattle.flood.specs.Levels.{grey};
-ghost use Rattle.max_tree.specs.Passes.{Blank, Owned, Pourable, poured-at, Pour, Poured, Writable, written-at, is-first, Recordable, Recorded};
+ghost use Rattle.flood.specs.Calls.{Sized};
+ghost use Rattle.max_tree.specs.Passes.{Blanked, Blank, Noting, noted-at, counted-at, Owned, Writable, written-at, tails-at, is-first, Recordable, Recorded, Pour, poured-at, Pourable, Poured};
 use crate::words;
 
-// Fills a part of the workspace that is lent with one word.
-pub fn fill(part: &mut [u32], word: u32)
-    ensures { λ _. ⌜ ((i : ℕ) → i < length (now (part .entry)) → getD (now (part .exit)) i 0 ≡ word) ⌝ }
+// Fills parts 2, 4 and 5, each lent by itself: no attribute, no own pixel noted, the accumulator of no pixel.
+pub fn blank_parts(n: usize, attribute: u32, ws: &mut [u32])
+    requires { ⌜ Sized n (now ws) ⌝ }
+    ensures { λ _. ⌜ Blanked n attribute (now (ws .entry)) (now (ws .exit)) ⌝ }
 {
-    let mut i = 0;
-    while i < part.len() {
-        part[i] = word;
-        i += 1;
-    }
+    let none = words::none(attribute);
+    flood::fill(&mut ws[n..2 * n], 0);
+    flood::fill(&mut ws[3 * n..4 * n], n as u32);
+    flood::fill(&mut ws[4 * n..5 * n], none);
 }
 
 // The node root of the pixel q, whose parent word is p.
@@ -32,86 +33,110 @@ fn node_root(picture: &[u8], q: usize, p: usize) -> usize
     q
 }
 
-// The lowest own pixel of each node, and the accumulator of its own pixels.
-pub fn own_pixels(picture: &[u8], width: usize, attribute: u32, ws: &mut [u32])
-    requires { ⌜ Blank width attribute (now picture) (now ws) ⌝ }
-    ensures { λ _. ⌜ Owned width attribute (now (picture .entry)) (now (ws .entry)) (now (ws .exit)) ⌝ }
+// Notes q as the first own pixel of the node whose root is r, unless one is noted, and counts the node at its level.
+fn note_first(picture: &[u8], q: usize, r: usize, ws: &mut [u32], counts: &mut [usize; 256])
+    requires { ⌜ Noting (now picture) q r (now ws) (now counts) ⌝ }
+    ensures { λ _. ⌜ now (ws .exit) ≡ noted-at (now (picture .entry)) q r (now (ws .entry)) ⌝ }
+    ensures { λ _. ⌜ now (counts .exit) ≡ counted-at (now (picture .entry)) q r (now (ws .entry)) (now (counts .entry)) ⌝ }
 {
     let n = picture.len();
-    let mut q = n;
-    while q > 0 {
-        q -= 1;
+    if ws[3 * n + r] as usize != n {
+        return;
+    }
+    let l = picture[q] as usize;
+    ws[3 * n + r] = q as u32;
+    counts[l] = counts[l] + 1;
+}
+
+// The lowest own pixel of each node, and the accumulator of its own pixels. Answers how many nodes each level has.
+pub fn own_pixels(picture: &[u8], width: usize, attribute: u32, ws: &mut [u32]) -> [usize; 256]
+    requires { ⌜ Blank width attribute (now picture) (now ws) ⌝ }
+    ensures { λ r. ⌜ Owned width attribute (now (picture .entry)) (now (ws .entry)) (now (ws .exit)) r ⌝ }
+{
+    let n = picture.len();
+    let mut counts: [usize; 256] = [0; 256];
+    let mut q = 0;
+    while q < n {
         let r = node_root(picture, q, ws[q] as usize);
         let own = words::one(attribute, width, q);
         let held = words::combine(attribute, ws[4 * n + r], own);
-        ws[3 * n + r] = q as u32;
         ws[4 * n + r] = held;
+        note_first(picture, q, r, ws, &mut counts);
+        q += 1;
     }
+    counts
 }
 
-// Adds the accumulator of q, the root of a node, to that of the node's parent. The root of the tree has none, and other pixels
-// have nothing to add.
-fn pour(picture: &[u8], attribute: u32, q: usize, ws: &mut [u32])
-    requires { ⌜ Pour (now picture) q (now ws) ⌝ }
-    ensures { λ _. ⌜ now (ws .exit) ≡ poured-at attribute (now (picture .entry)) q (now (ws .entry)) ⌝ }
-{
-    let n = picture.len();
-    let p = ws[q] as usize;
-    if picture[p] == picture[q] {
-        return;
-    }
-    let held = words::combine(attribute, ws[4 * n + p], ws[4 * n + q]);
-    ws[4 * n + p] = held;
-}
-
-// The accumulator of each whole node: every node is added to its parent, the brightest first.
-pub fn descendants(picture: &[u8], attribute: u32, ws: &mut [u32])
-    requires { ⌜ Pourable attribute (now picture) (now ws) ⌝ }
-    ensures { λ _. ⌜ Poured attribute (now (picture .entry)) (now (ws .entry)) (now (ws .exit)) ⌝ }
-{
-    let n = picture.len();
-    let mut i = n;
-    while i > 0 {
-        i -= 1;
-        let q = ws[2 * n + i] as usize;
-        pour(picture, attribute, q, ws);
-    }
-}
-
-// The record's words of the pixel q, the first that is not written yet. Answers 1 if q is a representative, else 0.
-fn write_pixel(picture: &[u8], attribute: u32, q: usize, ws: &mut [u32]) -> usize
-    requires { ⌜ Writable attribute (now picture) q (now ws) ⌝ }
+// The parent word of the pixel q, the first that is not written yet. That of a representative is put at the end of its level's run
+// in part 3, and its word in part 2 is the accumulator of its own pixels. Answers 1 for a representative, else 0.
+fn write_pixel(picture: &[u8], q: usize, ws: &mut [u32], tails: &mut [usize; 256]) -> usize
+    requires { ⌜ Writable (now picture) q (now ws) (now tails) ⌝ }
     ensures { λ r. ⌜ r ≡ cond (is-first (now (picture .entry)) q (now (ws .entry))) 1 0 ⌝ }
-    ensures { λ _. ⌜ now (ws .exit) ≡ written-at attribute (now (picture .entry)) q (now (ws .entry)) ⌝ }
+    ensures { λ _. ⌜ now (ws .exit) ≡ written-at (now (picture .entry)) q (now (ws .entry)) (now (tails .entry)) ⌝ }
+    ensures { λ _. ⌜ now (tails .exit) ≡ tails-at (now (picture .entry)) q (now (ws .entry)) (now (tails .entry)) ⌝ }
 {
     let n = picture.len();
     let r = node_root(picture, q, ws[q] as usize);
     let first = ws[3 * n + r];
     if first as usize != q {
         ws[q] = first;
-        ws[n + q] = 0;
         return 0;
     }
     let p = ws[r] as usize;
     let parent = ws[3 * n + p];
-    let word = words::measure(attribute, ws[4 * n + r]);
+    let own = ws[4 * n + r];
+    let l = picture[q] as usize;
+    let t = tails[l];
     ws[q] = parent;
-    ws[n + q] = word;
+    ws[n + q] = own;
+    ws[2 * n + t] = q as u32;
+    tails[l] = t + 1;
     1
 }
 
-// The parent words and attribute words of the record, in order of position: a node's lowest own pixel is written before its root.
-// Answers the number of nodes.
-pub fn write_record(picture: &[u8], attribute: u32, ws: &mut [u32]) -> usize
-    requires { ⌜ Recordable attribute (now picture) (now ws) ⌝ }
-    ensures { λ r. ⌜ Recorded attribute (now (picture .entry)) (now (ws .entry)) (now (ws .exit)) r ⌝ }
+// The parent words of the record in order of position, a node's lowest own pixel before its root, and the list of the
+// representatives, whose runs start where it is said. Answers the number of nodes.
+pub fn write_record(picture: &[u8], starts: [usize; 256], ws: &mut [u32]) -> usize
+    requires { ⌜ Recordable (now picture) (now ws) starts ⌝ }
+    ensures { λ r. ⌜ Recorded (now (picture .entry)) (now (ws .entry)) (now (ws .exit)) r ⌝ }
 {
     let n = picture.len();
+    let mut tails = starts;
     let mut nodes = 0;
     let mut q = 0;
     while q < n {
-        nodes += write_pixel(picture, attribute, q, ws);
+        nodes += write_pixel(picture, q, ws, &mut tails);
         q += 1;
     }
     nodes
+}
+
+// Adds the accumulator of the node of q, whose children are added to it, to that of its parent, and puts the node's attribute in its
+// place. The root of the tree has no parent.
+fn pour(n: usize, attribute: u32, q: usize, ws: &mut [u32])
+    requires { ⌜ Pour attribute n q (now ws) ⌝ }
+    ensures { λ _. ⌜ now (ws .exit) ≡ poured-at attribute n q (now (ws .entry)) ⌝ }
+{
+    let p = ws[q] as usize;
+    let held = ws[n + q];
+    ws[n + q] = words::measure(attribute, held);
+    if p == q {
+        return;
+    }
+    let sum = words::combine(attribute, ws[n + p], held);
+    ws[n + p] = sum;
+}
+
+// The attribute of each node: every node is added to its parent, the brightest first.
+pub fn descendants(picture: &[u8], attribute: u32, nodes: usize, ws: &mut [u32])
+    requires { ⌜ Pourable attribute (now picture) (now ws) nodes ⌝ }
+    ensures { λ _. ⌜ Poured attribute (now (picture .entry)) (now (ws .entry)) (now (ws .exit)) ⌝ }
+{
+    let n = picture.len();
+    let mut i = nodes;
+    while i > 0 {
+        i -= 1;
+        let q = ws[2 * n + i] as usize;
+        pour(n, attribute, q, ws);
+    }
 }

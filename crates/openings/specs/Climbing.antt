@@ -1,5 +1,5 @@
 -- Climbing in a tree record, by its words alone: what the record must be like, and which grey a climb finds. The words are parents and
--- attributes; representatives may be of any choice.
+-- attributes; a representative is the lowest own pixel, so that its new grey is there before those of the others.
 use Prim.Native.Nat.{ℕ, _+_, _≤_, _<_}
 use mathlib.Core.List.{List}
 use mathlib.Core.Logic.{_⊎_}

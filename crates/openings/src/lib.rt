@@ -1,5 +1,5 @@
-// The opening call: a picture is opened from its tree record. The record may be of any choice of representatives: climbing asks no more
-// than that levels fall.
+// The opening call: a picture is opened from its tree record. The climb asks no more of the record than that levels fall, whichever own
+// pixels stand for the nodes; the pass over the pixels asks that they are the lowest.
 ghost use Prim.Native.Nat.{_<_};
 ghost use mathlib.Core.Path.{_≡_};
 ghost use lib.ListN.{length};

@@ -1,11 +1,11 @@
 -- The written file: how long it is, and how it is stored field by field.
-use Prim.Native.Nat.{ℕ, _+_, _≤_, _<_}
+use Prim.Native.Nat.{ℕ, _+_, _≤_}
 use mathlib.Core.Path.{_≡_, refl, sym, _∙_, ap}
-use mathlib.Core.List.{List, [], _∷_, _++_}
+use mathlib.Core.List.{List, _∷_, _++_}
 use native.Mathlib.Numerals.{add-one}
 use native.Mathlib.Nat.{zero-add}
 use native.Mathlib.Omega.{arith}
-use lib.ListN.{length, set, drop, length-append, length-set}
+use lib.ListN.{length, set, drop, length-append}
 use lib.Seq.{sets, sets-eq}
 use Rattle.pgm.specs.Header.{sign}
 use Rattle.pgm.specs.Write.{decimal, pgm-file}
@@ -18,9 +18,6 @@ file-length picture width height maximum = simp length-append (omega arith)
 -- the same, from the number of digits of each field
 pub file-total : (picture : List ℕ) (width height maximum a : ℕ) → a ≡ length (decimal 7 width) → (b : ℕ) → b ≡ length (decimal 7 height) → (c : ℕ) → c ≡ length (decimal 7 maximum) → a + b + c + 6 + length picture ≡ length (pgm-file picture width height maximum)
 file-total picture width height maximum a ea b eb c ec = omega (arith, file-length picture width height maximum)
-
-pub length-two : (l : List ℕ) (i x j y : ℕ) → length (set (set l i x) j y) ≡ length l
-length-two l i x j y = simp length-set
 
 -- a run is stored from the buffer's start, and a further one right after it
 extend : (f x l now next : List ℕ) (i : ℕ) → now ≡ sets l 0 f → i ≡ length f → next ≡ sets now i x → next ≡ sets l 0 (f ++ x)

@@ -2,20 +2,22 @@
 use Prim.Native.Nat.{ℕ, _+_, _*_, _-_, _≤_, _<_}
 use mathlib.Core.Path.{_≡_, refl, sym, _∙_, ap}
 use mathlib.Core.Bool.{Bool, true, false}
-use mathlib.Core.List.{List, [], _∷_, _++_}
+use mathlib.Core.List.{List, [], _++_}
 use native.Mathlib.Omega.{arith}
 use lib.Dec.{leb, eqb}
-use lib.ListN.{length, take, drop, length-drop}
-use lib.Seq.{take-all, sets}
+use lib.ListN.{length, take, drop}
+use lib.Seq.{sets}
 use borrow.Author.Tests.{le-leb, lt-leb, leb-true, eq-eqb, ne-eqb, eqb-true}
 use Rattle.causes.specs.declared.Cause.{Cause}
 use Rattle.causes.specs.declared.Cause.the-variants.{Sides, PictureLength, Buffer, Sign, Header as BadHeader, Maximum, RasterLength, Sample}
+use Rattle.causes.specs.Causes.{must}
 use Rattle.causes.specs.Sides.{sides-fit}
+use Rattle.causes.proofs.Refusing.{must-passed}
 use Rattle.causes.proofs.Laws.{both-true, bounded, some-pixel}
 use Rattle.pgm.specs.Samples.{largest, all-at-most}
 use Rattle.pgm.specs.Header.{starts-with-sign, header-at}
-use Rattle.pgm.specs.Read.{must, maximum-fits, judged, read-answer, raster-of}
-use Rattle.pgm.specs.Write.{must as must-write, pgm-file, write-answer, buffer-after, Fields}
+use Rattle.pgm.specs.Read.{maximum-fits, judged, read-answer, raster-of}
+use Rattle.pgm.specs.Write.{pgm-file, write-answer, buffer-after, Fields}
 use Rattle.pgm.specs.declared.header.Header.{Header}
 use Rattle.pgm.specs.declared.header.Header.the-variants.{Read, Broken}
 use Rattle.pgm.specs.declared.Found.{Found}
@@ -35,10 +37,6 @@ samples-above maximum s most e h = all-at-most-largest maximum s ∙ lt-leb (lar
 pub judged-broken : (file : List ℕ) → Refused BadHeader ≡ judged file Broken
 unfolding judged
 judged-broken file = refl
-
--- the part from a position to the end
-pub to-end : (l : List ℕ) (start : ℕ) → take (length l - start) (drop start l) ≡ drop start l
-to-end l start = take-all (length l - start) (drop start l) (omega (arith, length-drop start l))
 
 -- the raster's bytes, counted from where it starts
 pub none-follow : (total start n : ℕ) → total < start → 1 ≤ n → false ≡ eqb (total - start) n
@@ -142,10 +140,9 @@ pub record Accepted (file : List ℕ) (width height maximum start : ℕ) : Type 
   pub samples-right : all-at-most maximum (drop start file) ≡ true
 
 -- an answer that is a picture has passed every test before it
-passed : (t : Bool) (cause : Cause) (answer : Found) (width height maximum start : ℕ) → must t cause answer ≡ Picture width height maximum start → (t ≡ true) × (answer ≡ Picture width height maximum start)
-passed true cause answer width height maximum start e = (refl, e)
-passed false cause answer width height maximum start e =
-    let z : _≡_ {A = ℕ} 0 1 = cc in absurd (omega arith)
+passed : (t : Bool) (cause : Cause) (answer : Found) (width height maximum start : ℕ) → must Refused t cause answer ≡ Picture width height maximum start → (t ≡ true) × (answer ≡ Picture width height maximum start)
+passed t cause answer width height maximum start e =
+    must-passed Refused t cause answer (Picture width height maximum start) (λ f. let z : _≡_ {A = ℕ} 0 1 = cc in omega arith) e
 
 judged-picture-is : (file : List ℕ) (h : Header) (width height maximum start : ℕ) → starts-with-sign file ≡ true → header-at file 2 ≡ h → judged file h ≡ Picture width height maximum start → Accepted file width height maximum start
 unfolding judged
@@ -195,9 +192,9 @@ pub record Writable (picture : List ℕ) (width height maximum room total : ℕ)
   pub room-right : length (pgm-file picture width height maximum) ≤ room
   pub total-right : total ≡ length (pgm-file picture width height maximum)
 
-passed-writing : (t : Bool) (cause : Cause) (answer : Written) (total : ℕ) → must-write t cause answer ≡ Bytes total → (t ≡ true) × (answer ≡ Bytes total)
-passed-writing true cause answer total e = (refl, e)
-passed-writing false cause answer total e = let z : _≡_ {A = ℕ} 0 1 = cc in absurd (omega arith)
+passed-writing : (t : Bool) (cause : Cause) (answer : Written) (total : ℕ) → must NotWritten t cause answer ≡ Bytes total → (t ≡ true) × (answer ≡ Bytes total)
+passed-writing t cause answer total e =
+    must-passed NotWritten t cause answer (Bytes total) (λ f. let z : _≡_ {A = ℕ} 0 1 = cc in omega arith) e
 
 pub writable-is : (picture : List ℕ) (width height maximum room total : ℕ) → write-answer picture width height maximum room ≡ Bytes total → Writable picture width height maximum room total
 unfolding write-answer

@@ -11,6 +11,7 @@ use lib.ListN.{length, getD, take, drop, take-append-drop, length-drop}
 use lib.Seq.{drop-drop, drop-append-seam, getD-drop}
 use borrow.Author.Tests.{eqb-true, eqb-false, leb-true, lt-ltb, le-leb, ne-eqb}
 use Rattle.causes.proofs.Laws.{both-true}
+use Rattle.causes.proofs.Lists.{from-here}
 use Rattle.pgm.specs.Bytes.{is-white, is-digit, move-of, by-move, white-move, digit-move, ends-comment}
 use Rattle.pgm.specs.Header.{gap-length, digit-count, decimal-value, white-at, finished-number, number-at, part-at}
 use Rattle.pgm.specs.Page.{GapRest, Gap, Number}
@@ -20,7 +21,7 @@ use Rattle.pgm.specs.declared.header.Move.{Move}
 use Rattle.pgm.specs.declared.header.Move.the-variants.{White, Digit, Comment, Foreign}
 use Rattle.pgm.specs.declared.header.Part.the-variants.{Value, Broken}
 use Rattle.pgm.proofs.Moves.{comment-35}
-use Rattle.pgm.proofs.Scan.{from-here, white-below, Stops, stops-at}
+use Rattle.pgm.proofs.Scan.{white-below, Stops, stops-at}
 
 -- what a move says of the byte
 white-sorted : (w d c : Bool) → white-move (cond w White (cond d Digit (cond c Comment Foreign))) ≡ w

@@ -1,27 +1,21 @@
 -- The steps of the header reader as laws of the definitions: the sign, one byte more of a gap, one digit more of a number.
-use Prim.Native.Nat.{ℕ, zero, suc, _+_, _*_, _-_, _^_, _≤_, _<_}
-use mathlib.Core.Path.{_≡_, refl, sym, _∙_, ap}
-use mathlib.Core.Bool.{Bool, true, false, cond, _&&_}
-use mathlib.Core.List.{List, [], _∷_}
+use Prim.Native.Nat.{ℕ, suc, _+_, _*_, _-_, _^_, _≤_, _<_}
+use mathlib.Core.Path.{_≡_, refl, _∙_}
+use mathlib.Core.Bool.{Bool, true, false, cond}
+use mathlib.Core.List.{List}
 use native.Mathlib.Numerals.{add-one}
 use native.Mathlib.Nat.{add-zero, pow-suc, pow-le-pow-right}
 use native.Mathlib.Omega.{arith}
 use lib.Dec.{eqb, leb, ltb}
 use lib.ListN.{length, getD, drop, drop-of-length-le}
-use lib.Seq.{drop-cons}
-use borrow.Author.Tests.{le-leb, lt-leb, eq-eqb, ne-eqb, leb-true, ltb-true}
+use borrow.Author.Tests.{le-leb, lt-leb, eq-eqb, leb-true, ltb-true}
 use Rattle.causes.proofs.Laws.{both-true}
+use Rattle.causes.proofs.Lists.{from-here}
 use Rattle.pgm.specs.Bytes.{move-of, is-white, is-digit, white-move, digit-move, ends-comment}
 use Rattle.pgm.specs.Header.{starts-with-sign, gap-length, digit-count, decimal-value, finished-number, number-at, white-at, part-at, last-white-at, maximum-at, height-at, header-at}
-use Rattle.pgm.specs.declared.header.Move.{Move}
 use Rattle.pgm.specs.declared.header.Move.the-variants.{White, Digit, Comment, Foreign}
-use Rattle.pgm.specs.declared.header.Part.{Part}
 use Rattle.pgm.specs.declared.header.Part.the-variants.{Value, Broken}
 use Rattle.pgm.specs.declared.header.Header.the-variants.{Read, Broken as BrokenHeader}
-
--- the bytes from a position on are the byte there and the bytes after it
-pub from-here : (file : List ℕ) (at : ℕ) → at < length file → drop at file ≡ getD file at 0 ∷ drop (at + 1) file
-from-here file at h = rw (add-one, drop-cons file at 0)
 
 module _ (file : List ℕ) (at : ℕ) where
   pub gap-past-end : (inside : Bool) → length file ≤ at → at + gap-length inside (drop at file) ≡ at

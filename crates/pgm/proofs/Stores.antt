@@ -8,8 +8,9 @@ use native.Mathlib.Nat.{add-zero, add-suc, suc-add}
 use native.Mathlib.Omega.{arith}
 use lib.Dec.{leb}
 use lib.ListN.{length, getD, take, drop, set, drop-of-length-le}
-use lib.Seq.{sets, length-sets, take-suc, take-all, drop-cons, length-take-le}
+use lib.Seq.{sets, length-sets, take-suc, take-all, length-take-le}
 use borrow.Author.Tests.{le-leb, lt-leb, leb-true, leb-false}
+use Rattle.causes.proofs.Lists.{from-here}
 use Rattle.pgm.specs.Samples.{largest, all-at-most}
 
 -- storing one run and then another from where it ended is storing both
@@ -49,7 +50,7 @@ module _ {l : List ℕ} {at : ℕ} {s : List ℕ} {i : ℕ} {now : List ℕ} (so
 
 largest-step : (s : List ℕ) (i best : ℕ) → i < length s → max best (largest (drop i s)) ≡ max (max best (getD s i 0)) (largest (drop (i + 1) s))
 unfolding largest
-largest-step s i best h = rw (add-one, drop-cons s i 0) (omega arith)
+largest-step s i best h = rw (from-here s i h) (omega arith)
 
 -- best is the largest of the first i samples
 abbrev pub LargestSoFar : List ℕ → ℕ → ℕ → Type 0

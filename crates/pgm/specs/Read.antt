@@ -1,11 +1,11 @@
 -- What reading a file answers: the picture that it holds, or the first cause that applies, in the order 8, 9, 10, 1, 11, 12.
 use Prim.Native.Nat.{ℕ, _+_, _*_, _-_}
-use mathlib.Core.Bool.{Bool, true, false, _&&_}
+use mathlib.Core.Bool.{Bool, _&&_}
 use mathlib.Core.List.{List, []}
 use lib.ListN.{length, take, drop}
 use lib.Dec.{leb, eqb}
-use Rattle.causes.specs.declared.Cause.{Cause}
 use Rattle.causes.specs.declared.Cause.the-variants.{Sides, Sign, Header as BadHeader, Maximum, RasterLength, Sample}
+use Rattle.causes.specs.Causes.{number-of, must}
 use Rattle.causes.specs.Sides.{sides-fit}
 use Rattle.pgm.specs.Header.{sign, starts-with-sign, header-at}
 use Rattle.pgm.specs.Samples.{all-at-most}
@@ -13,11 +13,6 @@ use Rattle.pgm.specs.declared.header.Header.{Header}
 use Rattle.pgm.specs.declared.header.Header.the-variants.{Read, Broken}
 use Rattle.pgm.specs.declared.Found.{Found}
 use Rattle.pgm.specs.declared.Found.the-variants.{Picture, Refused}
-
--- the answer where the test holds, else the refusal with the cause
-abbrev pub must : Bool → Cause → Found → Found
-must true cause answer = answer
-must false cause answer = Refused cause
 
 -- "The maximum is 1 to 255."
 abbrev pub maximum-fits : ℕ → Bool
@@ -27,13 +22,18 @@ maximum-fits maximum = leb 1 maximum && leb maximum 255
 unfoldable pub judged : List ℕ → Header → Found
 judged file Broken = Refused BadHeader
 judged file (Read width height maximum start) =
-    must (maximum-fits maximum) Maximum
-    (must (sides-fit width height) Sides
-    (must (eqb (length file - start) (width * height)) RasterLength
-    (must (all-at-most maximum (drop start file)) Sample (Picture width height maximum start))))
+    must Refused (maximum-fits maximum) Maximum
+    (must Refused (sides-fit width height) Sides
+    (must Refused (eqb (length file - start) (width * height)) RasterLength
+    (must Refused (all-at-most maximum (drop start file)) Sample (Picture width height maximum start))))
 
 unfoldable pub read-answer : List ℕ → Found
-read-answer file = must (starts-with-sign file) Sign (judged file (header-at file (length sign)))
+read-answer file = must Refused (starts-with-sign file) Sign (judged file (header-at file (length sign)))
+
+-- the number of an answer: 0 for a picture, else that of the cause
+abbrev pub found-number : Found → ℕ
+found-number (Picture width height maximum start) = 0
+found-number (Refused cause) = number-of cause
 
 -- the raster of an accepted file, "a part of the file"; nothing of a refused one
 abbrev pub raster-part : List ℕ → Found → List ℕ

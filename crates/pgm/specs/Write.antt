@@ -1,11 +1,11 @@
 -- What writing a picture answers, and what the lent buffer then holds.
 use Prim.Native.Nat.{ℕ, zero, suc, _+_, _*_, _/_, _%_, _<_}
-use mathlib.Core.Bool.{Bool, true, false, cond}
+use mathlib.Core.Bool.{cond}
 use mathlib.Core.List.{List, [], _∷_, _++_}
 use lib.ListN.{length, drop}
 use lib.Dec.{leb, ltb, eqb}
-use Rattle.causes.specs.declared.Cause.{Cause}
 use Rattle.causes.specs.declared.Cause.the-variants.{Sides, PictureLength, Maximum, Sample, Buffer}
+use Rattle.causes.specs.Causes.{number-of, must}
 use Rattle.causes.specs.Sides.{sides-fit}
 use Rattle.pgm.specs.Header.{sign}
 use Rattle.pgm.specs.Samples.{all-at-most}
@@ -23,20 +23,20 @@ unfoldable pub pgm-file : List ℕ → ℕ → ℕ → ℕ → List ℕ
 pgm-file picture width height maximum =
     sign ++ 10 ∷ decimal 7 width ++ 32 ∷ decimal 7 height ++ 10 ∷ decimal 7 maximum ++ 10 ∷ picture
 
--- the answer where the test holds, else the refusal with the cause
-abbrev pub must : Bool → Cause → Written → Written
-must true cause answer = answer
-must false cause answer = Refused cause
-
 -- the number of bytes, or the first cause that applies, in the order 1, 2, 10, 12, 7; room is the length of the lent buffer
 unfoldable pub write-answer : List ℕ → ℕ → ℕ → ℕ → ℕ → Written
 write-answer picture width height maximum room =
-    must (sides-fit width height) Sides
-    (must (eqb (length picture) (width * height)) PictureLength
-    (must (maximum-fits maximum) Maximum
-    (must (all-at-most maximum picture) Sample
-    (must (leb (length (pgm-file picture width height maximum)) room) Buffer
+    must Refused (sides-fit width height) Sides
+    (must Refused (eqb (length picture) (width * height)) PictureLength
+    (must Refused (maximum-fits maximum) Maximum
+    (must Refused (all-at-most maximum picture) Sample
+    (must Refused (leb (length (pgm-file picture width height maximum)) room) Buffer
     (Bytes (length (pgm-file picture width height maximum)))))))
+
+-- the number of an answer: 0 for a number of bytes, else that of the cause
+abbrev pub written-number : Written → ℕ
+written-number (Bytes total) = 0
+written-number (Refused cause) = number-of cause
 
 -- the file at the start of the buffer, "bytes after them are untouched"; a refusal leaves the whole buffer as it was
 abbrev pub buffer-with : Written → List ℕ → List ℕ → List ℕ

@@ -207,8 +207,8 @@ fn room() -> [u8; 65551]
 fn largest() {
     let picture = io::large_buffer();
     let mut buffer = room();
-    writes(b"largest picture", &picture, 4096, 16, 200, &mut buffer);
-    reads(b"largest picture read back", &buffer);
+    writes(b"widest picture", &picture, 4096, 16, 200, &mut buffer);
+    reads(b"widest picture read back", &buffer);
 }
 
 fn main() {

@@ -1,6 +1,6 @@
 -- What a map call answers and writes: refused, it leaves all as it was; accepted, both passes over the record of the picture, and the
 -- record that is left. Assumes nothing.
-use Prim.Native.Nat.{ℕ, _+_, _*_, _<_}
+use Prim.Native.Nat.{ℕ, _+_, _*_, _≤_, _<_}
 use mathlib.Core.Bool.{Bool, _&&_}
 use mathlib.Core.List.{List, _++_}
 use mathlib.Core.Path.{_≡_, refl, sym, ap, _∙_}
@@ -9,14 +9,15 @@ use lib.Dec.{eqb}
 use lib.ListN.{length, getD, take, replicate, List·getD-append}
 use lib.Seq.{getD-take, length-take-le, take-take}
 use borrow.Author.Tests.{eqb-true}
+use Rattle.sets.proofs.Laws.{count-le}
 use Rattle.sets.proofs.Tests.{and-left, and-right}
 use Rattle.grid.specs.Neighbours.{edge-neighbours}
 use Rattle.grid.specs.Attributes.{attribute}
 use Rattle.grid.proofs.Attributes.{edge-symmetric, attribute-some}
-use Rattle.tree.specs.Tree.{workspace}
+use Rattle.tree.specs.Tree.{workspace, is-representative, number-of-nodes}
 use Rattle.tree.proofs.Words.{parent-at, attribute-at}
 use Rattle.causes.specs.declared.Cause.{Cause}
-use Rattle.calls.specs.Judging.{steps-good, call-verdict}
+use Rattle.calls.specs.Judging.{steps-good, call-verdict, verdict-number}
 use Rattle.calls.specs.Calls.{grey, record-of, call-workspace, map-judged, map-residues, map-indices}
 use Rattle.calls.specs.declared.Verdict.{Verdict}
 use Rattle.calls.specs.declared.Verdict.the-variants.{Accepted, Refused as Not-accepted}
@@ -26,7 +27,7 @@ use Rattle.flood.specs.Calls.{Sized}
 use Rattle.max_tree.specs.Building.{Buildable, Ordered}
 use Rattle.residues.specs.Passes.{Given, Ready}
 use Rattle.residues.specs.Recorded.{Recorded, Written}
-use Rattle.residues.specs.Answer.{mapped-as}
+use Rattle.residues.specs.Answer.{mapped-as, mapped-number}
 use Rattle.residues.specs.declared.Mapped.{Mapped}
 use Rattle.residues.specs.declared.Mapped.the-variants.{Done, Refused}
 use Rattle.residues.proofs.Climbing.{recorded-climbable}
@@ -56,19 +57,24 @@ module _ (w h a : ℕ) {picture ws : List ℕ} {nodes : ℕ} (built : Ordered (w
       (omega (arith, length-take-le (2 * (w * h)) ws (omega (arith, built .words)))))
       ∙ ap (λ (l : List ℕ). getD l x 0) record-cleared
 
-  place-word : (i : ℕ) → i < w * h → order-of (w * h) (take (3 * (w * h)) ws) i ≡ getD ws (2 * (w * h) + i) 0
-  place-word i b = getD-take (3 * (w * h)) ws (2 * (w * h) + i) 0 (omega arith)
+  -- there are no more nodes than pixels
+  nodes-few : nodes ≤ w * h
+  unfolding number-of-nodes
+  nodes-few = rw (built .number) (count-le (w * h) (is-representative (w * h) (edge-neighbours w) (grey picture)))
 
-  ordered-recorded : Recorded (w * h) (edge-neighbours w) (attribute w (w * h) a) picture (take (3 * (w * h)) ws)
+  place-word : (i : ℕ) → i < nodes → order-of (w * h) (take (3 * (w * h)) ws) i ≡ order-of (w * h) ws i
+  place-word i l = getD-take (3 * (w * h)) ws (2 * (w * h) + i) 0 (omega (arith, nodes-few))
+
+  ordered-recorded : Recorded (w * h) nodes (edge-neighbours w) (attribute w (w * h) a) picture (take (3 * (w * h)) ws)
   ordered-recorded = record {
     parents = λ q b. tree-word q (omega arith) ∙ parent-at (w * h) (edge-neighbours w) (attribute w (w * h) a) (grey picture) q b;
     attributes =
         λ q b. tree-word (w * h + q) (omega arith) ∙ attribute-at (w * h) (edge-neighbours w) (attribute w (w * h) a) (grey picture) q b;
     order = record {
-      within = λ i b. rw (place-word i b) (built .order .within i b);
-      place = λ q b. let (i, l, e) = built .order .place q b in (i, l, place-word i l ∙ e);
-      once = λ i j b c e. built .order .once i j b c (sym (place-word i b) ∙ e ∙ place-word j c);
-      rising = λ i j l c. rw (place-word i (omega arith), place-word j c) (built .order .rising i j l c);
+      within = λ i l. rw (place-word i l) (built .order .within i l);
+      inside = λ i l. rw (place-word i l) (built .order .inside i l);
+      place = λ q b some. let (i, l, e) = built .order .place q b some in (i, l, place-word i l ∙ e);
+      rising = λ i j early l. rw (place-word i (omega arith), place-word j l) (built .order .rising i j early l);
     };
   }
 
@@ -88,9 +94,10 @@ judged-by w h a steps picture lent residues indices thresholds outputs verdict j
 abbrev pub Called : ℕ → ℕ → ℕ → List ℕ → List ℕ → List ℕ → List ℕ → List ℕ → Mapped → List ℕ → List ℕ → List ℕ → Type 0
 Called w h a steps picture lent residues indices answer left best index =
     (answer ≡ mapped-as (map-judged w h a steps picture lent residues indices))
+    × ((mapped-number answer ≡ verdict-number (map-judged w h a steps picture lent residues indices))
     × ((left ≡ call-workspace (map-judged w h a steps picture lent residues indices) w h a picture lent)
     × ((best ≡ map-residues w h a steps picture lent residues indices)
-    × (index ≡ map-indices w h a steps picture lent residues indices)))
+    × (index ≡ map-indices w h a steps picture lent residues indices))))
 
 module _ {w h a : ℕ} {steps picture lent residues indices : List ℕ} {verdict : Verdict}
     (judged : Judged w h a steps picture lent residues indices verdict) where
@@ -99,7 +106,7 @@ module _ {w h a : ℕ} {steps picture lent residues indices : List ℕ} {verdict
   unfolding call-workspace map-residues map-indices
   called-refused {cause} refused =
       let is : map-judged w h a steps picture lent residues indices ≡ Not-accepted cause = sym (judged .same) ∙ refused in
-      rw is (refl, (refl, (refl, refl)))
+      rw is (refl, (refl, (refl, (refl, refl))))
 
   module _ (accepted : verdict ≡ Accepted) where
     tests : Passed w h a (length picture) (steps-good steps) (length lent) (eqb (length residues) (w * h) && eqb (length indices) (w * h))
@@ -118,13 +125,14 @@ module _ {w h a : ℕ} {steps picture lent residues indices : List ℕ} {verdict
     build-asks = record { sides = tests .sides; bytes = tests .a-byte-each; words = tests .six-words-each }
 
     module _ {ws : List ℕ} {nodes : ℕ} (built : Ordered (w * h) w a picture ws nodes) where
-      pub passes-ask : Ready picture steps ws residues indices
+      pub passes-ask : Ready picture steps nodes ws residues indices
       passes-ask =
           let list : Step-list steps = step-list steps (tests .thresholds-good) in
-          let given : Given (w * h) picture steps (take (3 * (w * h)) ws) = record {
+          let given : Given (w * h) nodes picture steps (take (3 * (w * h)) ws) = record {
             few = list .not-more;
             rise = list .rises;
             size = tests .a-byte-each;
+            nodes-fit = nodes-few w h a built;
             climb = recorded-climbable (edge-symmetric w) (attribute-some w (w * h) a) (ordered-recorded w h a built);
           } in
           record {
@@ -150,7 +158,7 @@ module _ {w h a : ℕ} {steps picture lent residues indices : List ℕ} {verdict
         small = omega (arith, bounded w h (tests .sides) .small, tests .a-byte-each);
       }
 
-      pub called-done : {ws' left best index : List ℕ} → Written picture steps ws ws' best index
+      pub called-done : {ws' left best index : List ℕ} → Written picture steps nodes ws ws' best index
           → left ≡ take (2 * length picture) ws' ++ replicate (4 * length picture) 0
           → Called w h a steps picture lent residues indices Done left best index
       unfolding call-workspace map-residues map-indices
@@ -160,4 +168,4 @@ module _ {w h a : ℕ} {steps picture lent residues indices : List ℕ} {verdict
           written .maps w h a (bounded w h (tests .sides) .wide) (tests .a-byte-each) (ordered-recorded w h a built) in
           let kept : take (2 * (w * h)) ws' ≡ take (2 * (w * h)) ws = front (w * h) ws ws' (rw (tests .a-byte-each) at (written .kept)) in
           let cleaned : left ≡ record-of w h a picture = cleared ∙ rw (tests .a-byte-each, kept) (record-cleared w h a built) in
-          rw is (refl, (cleaned, (maps .0, maps .1)))
+          rw is (refl, (refl, (cleaned, (maps .0, maps .1))))

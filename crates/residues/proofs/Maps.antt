@@ -1,9 +1,10 @@
 -- Both passes together: they begin with nothing settled, and what they leave is what the definition says of the grid's pictures.
 use Prim.Native.Nat.{ℕ, _+_, _*_, _≤_, _<_}
 use mathlib.Core.List.{List}
-use mathlib.Core.Path.{_≡_, refl, sym, ap, subst, _∙_}
+use mathlib.Core.Path.{_≡_, refl, ap, subst, _∙_}
 use native.Mathlib.Omega.{arith}
 use lib.ListN.{length, getD, take, drop}
+use borrow.Author.Tests.{lt-ltb}
 use Rattle.sets.proofs.Laws.{table-ext}
 use Rattle.grid.specs.Neighbours.{edge-neighbours}
 use Rattle.grid.specs.Attributes.{attribute}
@@ -15,24 +16,23 @@ use Rattle.residues.specs.Recorded.{Recorded, Written}
 use Rattle.residues.proofs.Holding.{words-read}
 use Rattle.residues.proofs.Right.{maps-right}
 
-pub progress-begins : {picture steps ws residues indices : List ℕ} → Ready picture steps ws residues indices
+pub progress-begins : {picture steps : List ℕ} {m : ℕ} {ws residues indices : List ℕ} → Ready picture steps m ws residues indices
     → Progress (length picture) picture steps (take (3 * length picture) ws) ws residues indices 0
 progress-begins ready = record {
   ws-size = ready .ws-size;
   residues-size = ready .residues-size;
   indices-size = ready .indices-size;
   kept = refl;
-  done = λ j l stands. absurd (omega arith);
+  done = λ j l. absurd (omega arith);
 }
 
-module _ {n : ℕ} {picture steps words ws residues indices : List ℕ} (given : Given n picture steps words)
-    (prog : Progress n picture steps words ws residues indices n) where
+module _ {n m : ℕ} {picture steps words ws residues indices : List ℕ} (given : Given n m picture steps words)
+    (prog : Progress n picture steps words ws residues indices m) where
   -- at the end every node is settled
   settled-all : (q : ℕ) → q < n → Stands n words q → Settled n picture steps words (drop (3 * n) ws) residues indices q
   settled-all q b stands =
-      let (j, l, e) = given .climb .order .place q b in
-      subst (λ (p : ℕ). Settled n picture steps words (drop (3 * n) ws) residues indices p) e
-      (prog .done j l (subst (λ (p : ℕ). Stands n words p) (sym e) stands))
+      let (j, l, e) = given .climb .order .place q b (lt-ltb 0 _ stands) in
+      subst (λ (p : ℕ). Settled n picture steps words (drop (3 * n) ws) residues indices p) e (prog .done j l)
 
   word-kept : (x : ℕ) → x < 3 * n → getD ws x 0 ≡ getD words x 0
   word-kept x b = words-read n ws x b ∙ ap (λ (l : List ℕ). getD l x 0) (prog .kept)
@@ -55,9 +55,9 @@ module _ {n : ℕ} {picture steps words ws residues indices : List ℕ} (given :
   spread-words entries = table-ext n _ _ (λ q b. rw (word-kept q (omega arith), word-kept (n + q) (omega arith)) refl)
 
 -- on a grid the pass over the pixels leaves the maps
-module _ (w h a : ℕ) (wide : 1 ≤ w) {picture steps words ws residues indices : List ℕ} (given : Given (w * h) picture steps words)
-    (prog : Progress (w * h) picture steps words ws residues indices (w * h))
-    (recorded : Recorded (w * h) (edge-neighbours w) (attribute w (w * h) a) picture words)
+module _ (w h a : ℕ) (wide : 1 ≤ w) {m : ℕ} {picture steps words ws residues indices : List ℕ}
+    (given : Given (w * h) m picture steps words) (prog : Progress (w * h) picture steps words ws residues indices m)
+    (recorded : Recorded (w * h) m (edge-neighbours w) (attribute w (w * h) a) picture words)
     (bytes : (q : ℕ) → getD picture q 0 < 256) where
   maps-grid : (spread-over (w * h) ws residues ≡ residue-map w h a steps picture) × (spread-over (w * h) ws indices ≡ index-map w h a steps picture)
   unfolding residue-map index-map
@@ -74,11 +74,11 @@ module _ (w h a : ℕ) (wide : 1 ≤ w) {picture steps words ws residues indices
       (settled-all given prog) in
       (spread-words given prog residues ∙ best, spread-words given prog indices ∙ index)
 
-pub passes-written : {picture steps lent ws residues indices residues' indices' : List ℕ}
-    → Given (length picture) picture steps (take (3 * length picture) lent) → ((q : ℕ) → getD picture q 0 < 256)
-    → Progress (length picture) picture steps (take (3 * length picture) lent) ws residues indices (length picture)
+pub passes-written : {m : ℕ} {picture steps lent ws residues indices residues' indices' : List ℕ}
+    → Given (length picture) m picture steps (take (3 * length picture) lent) → ((q : ℕ) → getD picture q 0 < 256)
+    → Progress (length picture) picture steps (take (3 * length picture) lent) ws residues indices m
     → (residues' ≡ spread-over (length picture) ws residues) × (indices' ≡ spread-over (length picture) ws indices)
-    → Written picture steps lent ws residues' indices'
+    → Written picture steps m lent ws residues' indices'
 passes-written given bytes prog (best, index) =
     record {
       kept = prog .kept;

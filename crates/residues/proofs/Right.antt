@@ -22,6 +22,7 @@ use Rattle.tree.specs.Tree.{representative}
 use Rattle.tree.proofs.Together.{Together}
 use Rattle.tree.proofs.Representatives.{representative-in, representative-grey, representative-below}
 use Rattle.tree.proofs.Parents.{Over, Parent}
+use Rattle.tree.proofs.Words.{Positive}
 use Rattle.calls.specs.Calls.{grey}
 use Rattle.falls.specs.Falls.{fall-place, running-fall}
 use Rattle.falls.proofs.Nodes.{place-le, place-root, place-node, never-falls, running-le, running-parent, residue-parent, index-parent, residue-own, index-own}
@@ -30,7 +31,7 @@ use Rattle.residues.specs.Passes.{place-at, Stands, Climbable, Settled, 
 use Rattle.residues.specs.Recorded.{Recorded}
 use Rattle.residues.proofs.Settling.{word-never, best-never, index-never, word-falls, best-falls, index-falls}
 use Rattle.residues.proofs.Spreading.{holder-self, holder-other}
-use Rattle.residues.proofs.Climbing.{Positive, recorded-attribute, recorded-parent, recorded-other, recorded-climbable}
+use Rattle.residues.proofs.Climbing.{recorded-attribute, recorded-parent, recorded-other, recorded-climbable}
 
 -- the node of q holds the right values
 record Right (n : ℕ) (adj : Adjacency) (attr : Positions → ℕ) (picture steps runs residues indices : List ℕ) (q : ℕ) : Type 0 where
@@ -46,8 +47,8 @@ unfolding shared-fall
 shared-is word k place run e f =
     rw e (cond-case (λ (x : ℕ). x ≡ cond (eqb place k) run 0) (eqb place k) (λ t. rw t (f (eqb-true place k t))) (λ t. rw t refl))
 
-module _ {n : ℕ} {adj : Adjacency} {attr : Positions → ℕ} {picture steps words runs residues indices : List ℕ} (symm : Symmetric adj)
-    (rise : Increasing n attr) (positive : Positive n attr) (recorded : Recorded n adj attr picture words)
+module _ {n m : ℕ} {adj : Adjacency} {attr : Positions → ℕ} {picture steps words runs residues indices : List ℕ} (symm : Symmetric adj)
+    (rise : Increasing n attr) (positive : Positive n attr) (recorded : Recorded n m adj attr picture words)
     (whole : (p q : ℕ) → p < n → q < n → Together n adj (grey picture) (least-grey n (grey picture)) p q) (up : rising 0 steps ≡ true)
     (bytes : (q : ℕ) → getD picture q 0 < 256)
     (settled : (q : ℕ) → q < n → Stands n words q → Settled n picture steps words runs residues indices q) where
@@ -119,7 +120,7 @@ module _ {n : ℕ} {adj : Adjacency} {attr : Positions → ℕ} {picture steps w
       (recorded-parent symm positive recorded q b stands))
       (le-or-lt (length steps) (fall-place n adj attr steps (grey picture) q))
     where
-      climb : Climbable n picture words
+      climb : Climbable n m picture words
       climb = recorded-climbable symm positive recorded
 
   -- a pixel has what its representative holds
@@ -145,7 +146,7 @@ module _ {n : ℕ} {adj : Adjacency} {attr : Positions → ℕ} {picture steps w
       other none =
           let r : ℕ = representative n adj (grey picture) q in
           let e : getD words q 0 ≡ r = recorded-other symm positive recorded q b none in
-          let climb : Climbable n picture words = recorded-climbable symm positive recorded in
+          let climb : Climbable n m picture words = recorded-climbable symm positive recorded in
           let same : grey picture r ≡ grey picture q = representative-grey n adj symm (grey picture) q b in
           let over : Over n adj (grey picture) r q = subst (λ (h : ℕ). Together n adj (grey picture) h q r) (sym same) (representative-in n adj symm (grey picture) q b) in
           let stands : Stands n words r = subst (λ (x : ℕ). Stands n words x) e (climb .leads q b) in

@@ -1,4 +1,4 @@
--- One turn of the pass over the nodes: the parent of the pixel at hand is settled, since it is darker and so stands before it, and what
+-- One turn of the pass over the nodes: the parent of the node at hand is settled, since it is darker and so stands before it, and what
 -- is settled stays so, since nothing settled hangs on what is stored now.
 use Prim.Native.Nat.{ℕ, _+_, _-_, _*_, _≤_, _<_}
 use mathlib.Core.List.{List}
@@ -9,43 +9,45 @@ use native.Mathlib.Omega.{arith}
 use lib.Dec.{eqb}
 use lib.ListN.{length, getD, take, drop, length-set, length-drop}
 use lib.Seq.{getD-set-same}
-use borrow.Author.Tests.{eqb-true, eqb-false}
+use borrow.Author.Tests.{eqb-true, eqb-false, lt-ltb, ltb-true}
 use borrow.Rule.Slice.PartMut.{putMid, take-put, same-len-mid}
 use Rattle.sets.proofs.Tests.{decided, le-or-lt, last-or-below}
 use Rattle.flood.specs.Flooding.{order-of}
+use Rattle.max_tree.proofs.Listing.{listed-rises, listed-apart}
 use Rattle.residues.specs.Settle.{place-of, Settleable, Stored}
 use Rattle.residues.specs.Passes.{place-at, Stands, Climbable, Given, Settled, Progress, Visitable}
 use Rattle.residues.proofs.Settling.{word-low}
 use Rattle.residues.proofs.Holding.{words-read, runs-all, runs-back, settled-other, settled-here}
 
 -- the turn at place i
-module _ {n : ℕ} {picture steps words ws residues indices : List ℕ} {i : ℕ} (b : i < n) (given : Given n picture steps words)
+module _ {n m : ℕ} {picture steps words ws residues indices : List ℕ} {i : ℕ} (b : i < m) (given : Given n m picture steps words)
     (prog : Progress n picture steps words ws residues indices i) where
-  climb : Climbable n picture words
+  climb : Climbable n m picture words
   climb = given .climb
 
   at-inside : order-of n words i < n
   at-inside = climb .order .within i b
 
+  at-stands : (j : ℕ) → j < m → Stands n words (order-of n words j)
+  at-stands j l = ltb-true 0 _ (climb .order .inside j l)
+
   -- a darker representative is settled
   darker-settled : (q : ℕ) → q < n → Stands n words q → getD picture q 0 < getD picture (order-of n words i) 0
       → Settled n picture steps words (drop (3 * n) ws) residues indices q
   darker-settled q c stands dark =
-      let (j, l, e) = climb .order .place q c in
+      let (j, l, e) = climb .order .place q c (lt-ltb 0 _ stands) in
       let before : j < i =
       ⊎-elim
-      (λ (late : i ≤ j). absurd (omega (arith, climb .order .rising i j late l, ap (λ (p : ℕ). getD picture p 0) e)))
+      (λ (late : i ≤ j). absurd (omega (arith, listed-rises (climb .order) i j late l, ap (λ (p : ℕ). getD picture p 0) e)))
       (λ early. early)
       (le-or-lt i j) in
-      subst (λ (p : ℕ). Settled n picture steps words (drop (3 * n) ws) residues indices p) e
-      (prog .done j before (subst (λ (p : ℕ). Stands n words p) (sym e) stands))
+      subst (λ (p : ℕ). Settled n picture steps words (drop (3 * n) ws) residues indices p) e (prog .done j before)
 
   runs-size : length (drop (3 * n) ws) ≡ 3 * n
   runs-size = omega (arith, length-drop (3 * n) ws, prog .ws-size)
 
-  pub turn-ready : Stands n words (order-of n words i)
-      → Settleable picture steps (drop (3 * n) ws) residues indices (order-of n words i) (getD words (order-of n words i) 0)
-  turn-ready stands =
+  pub turn-ready : Settleable picture steps (drop (3 * n) ws) residues indices (order-of n words i) (getD words (order-of n words i) 0)
+  turn-ready =
       let r : ℕ = order-of n words i in
       let parent : ℕ = getD words r 0 in
       let inside : parent < n = climb .within r at-inside in
@@ -57,40 +59,26 @@ module _ {n : ℕ} {picture steps words ws residues indices : List ℕ} {i : ℕ
         darker =
             ⊎-elim
             (λ e. le-of-eq (ap (λ (p : ℕ). getD picture p 0) (eqb-true parent r e)))
-            (λ e. omega (arith, climb .darker r at-inside stands (eqb-false parent r e)))
+            (λ e. omega (arith, climb .darker r at-inside (at-stands i b) (eqb-false parent r e)))
             (decided (eqb parent r));
-        low = λ apart. darker-settled parent inside (climb .leads r at-inside) (climb .darker r at-inside stands apart) .low;
-      }
-
-  -- a pixel that stands for no node
-  pub turn-skips : (Stands n words (order-of n words i) → ⊥) → Progress n picture steps words ws residues indices (i + 1)
-  turn-skips none =
-      record {
-        ws-size = prog .ws-size;
-        residues-size = prog .residues-size;
-        indices-size = prog .indices-size;
-        kept = prog .kept;
-        done =
-            λ j l stands.
-            ⊎-elim
-            (λ (e : j ≡ i). absurd (none (subst (λ (x : ℕ). Stands n words (order-of n words x)) e stands)))
-            (λ early. prog .done j early stands)
-            (last-or-below j i (omega arith));
+        low = λ apart. darker-settled parent inside (climb .leads r at-inside) (climb .darker r at-inside (at-stands i b) apart) .low;
       }
 
   -- a settled node and its parent stand apart from the one that is settled now
-  apart-now : (j : ℕ) → j < i → Stands n words (order-of n words j)
+  apart-now : (j : ℕ) → j < i
       → (order-of n words j ≡ order-of n words i → ⊥) × (getD words (order-of n words j) 0 ≡ order-of n words i → ⊥)
-  apart-now j early stands =
-      let off : order-of n words j ≡ order-of n words i → ⊥ = λ e. omega (arith, climb .order .once j i (omega arith) b e) in (
+  apart-now j early =
+      let off : order-of n words j ≡ order-of n words i → ⊥ = listed-apart (climb .order) j i early b in (
         off,
         λ e.
-            let dark = climb .darker (order-of n words j) (climb .order .within j (omega arith)) stands (λ own. off (sym own ∙ e)) in
-            omega (arith, ap (λ (p : ℕ). getD picture p 0) e, climb .order .rising j i (omega arith) b),
+            let listed : j < m = omega arith in
+            let dark =
+            climb .darker (order-of n words j) (climb .order .within j listed) (at-stands j listed) (λ own. off (sym own ∙ e)) in
+            omega (arith, ap (λ (p : ℕ). getD picture p 0) e, listed-rises (climb .order) j i (omega arith) b),
       )
 
-  -- a pixel that stands for a node, which is settled in the part from the fourth on
-  module _ (stands : Stands n words (order-of n words i)) (byte : getD picture (order-of n words i) 0 < 256)
+  -- the node is settled in the part from the fourth on
+  module _ (byte : getD picture (order-of n words i) 0 < 256)
       (runs' residues' indices' : List ℕ)
       (stored : Stored picture (drop (3 * n) ws) residues indices runs' residues' indices' (length steps)
       (place-at n steps words (order-of n words i)) (order-of n words i) (getD words (order-of n words i) 0))
@@ -104,16 +92,15 @@ module _ {n : ℕ} {picture steps words ws residues indices : List ℕ} {i : ℕ
           inside
           (rw
           (ap (λ (l : List ℕ). getD l r 0) (stored .word) ∙ getD-set-same (drop (3 * n) ws) r _ 0 (inside .0))
-          (word-low (getD words (n + r) 0) (turn-ready stands) byte))
+          (word-low (getD words (n + r) 0) turn-ready byte))
           stored
 
-      settled-still : (j : ℕ) → j < i → Stands n words (order-of n words j)
-          → Settled n picture steps words runs' residues' indices' (order-of n words j)
-      settled-still j early before =
-          let (off, apart) = apart-now j early before in
+      settled-still : (j : ℕ) → j < i → Settled n picture steps words runs' residues' indices' (order-of n words j)
+      settled-still j early =
+          let (off, apart) = apart-now j early in
           rw
           (stored .word, stored .best, stored .index)
-          (settled-other (order-of n words i) _ _ _ (order-of n words j) off apart (prog .done j early before))
+          (settled-other (order-of n words i) _ _ _ (order-of n words j) off apart (prog .done j early))
 
       pub turn-settles : (ws' : List ℕ) → take (3 * n) ws' ≡ take (3 * n) ws → drop (3 * n) ws' ≡ runs' → length ws' ≡ length ws
           → Progress n picture steps words ws' residues' indices' (i + 1)
@@ -124,25 +111,25 @@ module _ {n : ℕ} {picture steps words ws residues indices : List ℕ} {i : ℕ
             indices-size = ap length (stored .index) ∙ length-set indices _ _ ∙ prog .indices-size;
             kept = front ∙ prog .kept;
             done =
-                λ j l stands.
+                λ j l.
                 rw
                 back
                 (⊎-elim
                 (λ (e : j ≡ i). subst (λ (x : ℕ). Settled n picture steps words runs' residues' indices' (order-of n words x)) (sym e) settled-now)
-                (λ early. settled-still j early stands)
+                (λ early. settled-still j early)
                 (last-or-below j i (omega arith)));
           }
 
 -- the same, as the code reads the words
 module _ {n : ℕ} {picture steps ws residues indices : List ℕ} {i : ℕ} (turn : Visitable n picture steps ws residues indices i) where
-  climbable : Climbable n picture (take (3 * n) ws)
+  climbable : Climbable n (turn .nodes) picture (take (3 * n) ws)
   climbable = turn .given .climb
 
   read-inside : order-of n (take (3 * n) ws) i < n
   read-inside = climbable .order .within i (turn .inside)
 
   pixel-read : getD ws (2 * n + i) 0 ≡ order-of n (take (3 * n) ws) i
-  pixel-read = words-read n ws (2 * n + i) (omega (arith, turn .inside))
+  pixel-read = words-read n ws (2 * n + i) (omega (arith, turn .inside, turn .given .nodes-fit))
 
   parent-read : getD ws (order-of n (take (3 * n) ws) i) 0 ≡ getD (take (3 * n) ws) (order-of n (take (3 * n) ws) i) 0
   parent-read = words-read n ws (order-of n (take (3 * n) ws) i) (omega (arith, read-inside))
@@ -156,58 +143,42 @@ module _ {n : ℕ} {picture steps ws residues indices : List ℕ} {i : ℕ} (tur
   pub visit-parent : getD ws (getD ws (2 * n + i) 0) 0 < n
   visit-parent = rw (pixel-read, parent-read) (climbable .within (order-of n (take (3 * n) ws) i) read-inside)
 
-  stands-read : (getD ws (n + getD ws (2 * n + i) 0) 0 ≡ 0 → ⊥) → Stands n (take (3 * n) ws) (order-of n (take (3 * n) ws) i)
-  stands-read some =
-      ⊎-elim
-      (λ (none : getD (take (3 * n) ws) (n + order-of n (take (3 * n) ws) i) 0 ≤ 0).
-      absurd (some (rw (pixel-read, attribute-read) (omega arith))))
-      (λ l. l)
-      (le-or-lt _ 0)
+  pub visit-ready : Settleable picture steps (take (length ws - 3 * n) (drop (3 * n) ws)) residues indices (getD ws (2 * n + i) 0)
+      (getD ws (getD ws (2 * n + i) 0) 0)
+  visit-ready = rw (runs-all n ws, pixel-read, parent-read) (turn-ready (turn .inside) (turn .given) (turn .progress))
 
-  pub visit-skips : getD ws (n + getD ws (2 * n + i) 0) 0 ≡ 0 → Progress n picture steps (take (3 * n) ws) ws residues indices (i + 1)
-  visit-skips none =
-      turn-skips (turn .inside) (turn .given) (turn .progress) (λ some. omega (arith, rw (pixel-read, attribute-read) at none))
-
-  module _ (some : getD ws (n + getD ws (2 * n + i) 0) 0 ≡ 0 → ⊥) where
-    pub visit-ready : Settleable picture steps (take (length ws - 3 * n) (drop (3 * n) ws)) residues indices (getD ws (2 * n + i) 0)
-        (getD ws (getD ws (2 * n + i) 0) 0)
-    visit-ready =
-        rw
-        (runs-all n ws, pixel-read, parent-read)
-        (turn-ready (turn .inside) (turn .given) (turn .progress) (stands-read some))
-
-    pub visit-settles : getD picture (getD ws (2 * n + i) 0) 0 < 256 → {runs' residues' indices' : List ℕ}
-        → length runs' ≡ length (take (length ws - 3 * n) (drop (3 * n) ws))
-        → Stored picture (take (length ws - 3 * n) (drop (3 * n) ws)) residues indices runs' residues' indices' (length steps)
-        (place-of steps (getD ws (2 * n + i) 0) (getD ws (getD ws (2 * n + i) 0) 0) (getD ws (n + getD ws (2 * n + i) 0) 0))
-        (getD ws (2 * n + i) 0)
-        (getD ws (getD ws (2 * n + i) 0) 0)
-        → Progress n picture steps (take (3 * n) ws) (putMid (3 * n) (length ws - 3 * n) ws runs') residues' indices' (i + 1)
-    visit-settles byte {runs'} {residues'} {indices'} size stored =
-        let fits : 3 * n ≤ length ws = omega (arith, turn .progress .ws-size) in
-        turn-settles
-        (turn .inside)
-        (turn .given)
-        (turn .progress)
-        (stands-read some)
-        (rw pixel-read at byte)
-        runs'
-        residues'
-        indices'
-        (rw (runs-all n ws, pixel-read, parent-read, attribute-read) at stored)
-        (putMid (3 * n) (length ws - 3 * n) ws runs')
-        (take-put (3 * n) (length ws - 3 * n) ws runs' fits)
-        (runs-back n ws runs' fits)
-        (same-len-mid (3 * n) (length ws - 3 * n) ws runs' size)
+  pub visit-settles : getD picture (getD ws (2 * n + i) 0) 0 < 256 → {runs' residues' indices' : List ℕ}
+      → length runs' ≡ length (take (length ws - 3 * n) (drop (3 * n) ws))
+      → Stored picture (take (length ws - 3 * n) (drop (3 * n) ws)) residues indices runs' residues' indices' (length steps)
+      (place-of steps (getD ws (2 * n + i) 0) (getD ws (getD ws (2 * n + i) 0) 0) (getD ws (n + getD ws (2 * n + i) 0) 0))
+      (getD ws (2 * n + i) 0)
+      (getD ws (getD ws (2 * n + i) 0) 0)
+      → Progress n picture steps (take (3 * n) ws) (putMid (3 * n) (length ws - 3 * n) ws runs') residues' indices' (i + 1)
+  visit-settles byte {runs'} {residues'} {indices'} size stored =
+      let fits : 3 * n ≤ length ws = omega (arith, turn .progress .ws-size) in
+      turn-settles
+      (turn .inside)
+      (turn .given)
+      (turn .progress)
+      (rw pixel-read at byte)
+      runs'
+      residues'
+      indices'
+      (rw (runs-all n ws, pixel-read, parent-read, attribute-read) at stored)
+      (putMid (3 * n) (length ws - 3 * n) ws runs')
+      (take-put (3 * n) (length ws - 3 * n) ws runs' fits)
+      (runs-back n ws runs' fits)
+      (same-len-mid (3 * n) (length ws - 3 * n) ws runs' size)
 
 -- from one turn to the next the words stay
 module _ {n : ℕ} {picture steps words ws residues indices : List ℕ} {i : ℕ}
     (prog : Progress n picture steps words ws residues indices i) where
-  pub visitable : i < n → Given n picture steps words → Visitable n picture steps ws residues indices i
-  visitable b given =
+  pub visitable : {m : ℕ} → i < m → Given n m picture steps words → Visitable n picture steps ws residues indices i
+  visitable {m} b given =
       record {
+        nodes = m;
         inside = b;
-        given = subst (λ (w : List ℕ). Given n picture steps w) (sym (prog .kept)) given;
+        given = subst (λ (w : List ℕ). Given n m picture steps w) (sym (prog .kept)) given;
         progress = subst (λ (w : List ℕ). Progress n picture steps w ws residues indices i) (sym (prog .kept)) prog;
       }
 

@@ -13,6 +13,10 @@ use Rattle.falls.specs.Falls.{outlasted}
 unfoldable pub place-of : List ℕ → ℕ → ℕ → ℕ → ℕ
 place-of steps r parent a = cond (eqb parent r) (length steps) (outlasted a steps)
 
+-- a table of the places for the attributes below 256
+pub record Small-places (steps table : List ℕ) : Type 0 where
+  pub each : (a : ℕ) → a < 256 → getD table a 0 ≡ outlasted a steps
+
 -- the fall from r to its parent
 abbrev pub down : List ℕ → ℕ → ℕ → ℕ
 down picture r parent = getD picture r 0 - getD picture parent 0

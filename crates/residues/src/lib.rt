@@ -3,8 +3,9 @@ ghost use mathlib.Core.Bool.{_&&_};
 ghost use mathlib.Core.Path.{_≡_};
 ghost use Prim.Native.Nat.{_*_};
 ghost use lib.Dec.{eqb};
+ghost use Rattle.calls.specs.Judging.{verdict-number};
 ghost use Rattle.calls.specs.Calls.{map-judged, call-workspace, map-residues, map-indices};
-ghost use Rattle.residues.specs.Answer.{mapped-as};
+ghost use Rattle.residues.specs.Answer.{mapped-as, mapped-number};
 
 mod passes;
 
@@ -36,6 +37,7 @@ pub fn map(
     index: &mut [u16],
 ) -> Mapped
     ensures { λ r. ⌜ r ≡ mapped-as (map-judged width height attribute (now (steps .entry)) (now (picture .entry)) (now (workspace .entry)) (now (residue .entry)) (now (index .entry))) ⌝ }
+    ensures { λ r. ⌜ mapped-number r ≡ verdict-number (map-judged width height attribute (now (steps .entry)) (now (picture .entry)) (now (workspace .entry)) (now (residue .entry)) (now (index .entry))) ⌝ }
     ensures { λ _. ⌜ now (workspace .exit) ≡ call-workspace (map-judged width height attribute (now (steps .entry)) (now (picture .entry)) (now (workspace .entry)) (now (residue .entry)) (now (index .entry))) width height attribute (now (picture .entry)) (now (workspace .entry)) ⌝ }
     ensures { λ _. ⌜ now (residue .exit) ≡ map-residues width height attribute (now (steps .entry)) (now (picture .entry)) (now (workspace .entry)) (now (residue .entry)) (now (index .entry)) ⌝ }
     ensures { λ _. ⌜ now (index .exit) ≡ map-indices width height attribute (now (steps .entry)) (now (picture .entry)) (now (workspace .entry)) (now (residue .entry)) (now (index .entry)) ⌝ }
@@ -56,8 +58,8 @@ pub fn map(
             return Mapped::Refused(cause);
         }
         calls::Verdict::Accepted => {
-            max_tree::build_ordered(picture, width, height, attribute, workspace);
-            passes::write_maps(picture, steps, workspace, residue, index);
+            let nodes = max_tree::build_ordered(picture, width, height, attribute, workspace);
+            passes::write_maps(picture, steps, nodes as usize, workspace, residue, index);
             max_tree::clear_scratch(picture.len(), workspace);
             return Mapped::Done;
         }

@@ -1,12 +1,13 @@
 // The two passes over the tree record of a picture that give its maps: one over the nodes from dark to bright, which settles each node
-// from its parent, then one over the pixels. Their time grows with the number of steps only by the binary search that finds where a node falls.
+// from its parent, then one over the pixels. Where a node falls is read from a table if its attribute is small. Their time grows with the
+// number of steps only by the table and by the binary search that finds where any other node falls.
 ghost use mathlib.Core.Bool.{true};
 ghost use mathlib.Core.Path.{_≡_};
 ghost use Prim.Native.Nat.{_+_, _*_};
 ghost use lib.ListN.{length, take};
 ghost use Rattle.opening.specs.Residue.{rising};
 ghost use Rattle.falls.specs.Falls.{outlasted};
-ghost use Rattle.residues.specs.Settle.{place-of, shared-fall, Settleable, Stored};
+ghost use Rattle.residues.specs.Settle.{place-of, Small-places, shared-fall, Settleable, Stored};
 ghost use Rattle.residues.specs.Passes.{Given, Progress, Visitable, Spreadable, spread-over, Ready};
 ghost use Rattle.residues.specs.Recorded.{Written};
 
@@ -28,13 +29,31 @@ fn outlasted_by(steps: &[u32], a: u32) -> usize
     low
 }
 
-// The place of the step at which the node of r falls, the number of steps if it never does.
-fn place(steps: &[u32], r: usize, parent: usize, a: u32) -> usize
+// The same for every attribute below 256.
+fn small_places(steps: &[u32]) -> [usize; 256]
     requires { ⌜ rising 0 (now steps) ≡ true ⌝ }
+    ensures { λ r. ⌜ Small-places (now (steps .entry)) r ⌝ }
+{
+    let mut table: [usize; 256] = [0; 256];
+    let mut a: u32 = 0;
+    while a < 256 {
+        table[a as usize] = outlasted_by(steps, a);
+        a += 1;
+    }
+    table
+}
+
+// The place of the step at which the node of r falls, the number of steps if it never does.
+fn place(steps: &[u32], table: &[usize; 256], r: usize, parent: usize, a: u32) -> usize
+    requires { ⌜ rising 0 (now steps) ≡ true ⌝ }
+    requires { ⌜ Small-places (now steps) (now table) ⌝ }
     ensures { λ k. ⌜ k ≡ place-of (now (steps .entry)) r parent a ⌝ }
 {
     if parent == r {
         return steps.len();
+    }
+    if a < 256 {
+        return table[a as usize];
     }
     outlasted_by(steps, a)
 }
@@ -51,6 +70,7 @@ fn shared(word: u32, k: u32) -> u32
 fn settle(
     picture: &[u8],
     steps: &[u32],
+    table: &[usize; 256],
     r: usize,
     parent: usize,
     a: u32,
@@ -59,9 +79,10 @@ fn settle(
     indices: &mut [u16],
 )
     requires { ⌜ Settleable (now picture) (now steps) (now words) (now residues) (now indices) r parent ⌝ }
+    requires { ⌜ Small-places (now steps) (now table) ⌝ }
     ensures { λ _. ⌜ Stored (now (picture .entry)) (now (words .entry)) (now (residues .entry)) (now (indices .entry)) (now (words .exit)) (now (residues .exit)) (now (indices .exit)) (length (now (steps .entry))) (place-of (now (steps .entry)) r parent a) r parent ⌝ }
 {
-    let k = place(steps, r, parent, a);
+    let k = place(steps, table, r, parent, a);
     if steps.len() <= k {
         words[r] = (k as u32) * 256;
         residues[r] = 0;
@@ -80,10 +101,11 @@ fn settle(
     indices[r] = indices[parent];
 }
 
-// Settles the pixel at place i of the order, if it stands for a node.
+// Settles the node at place i of the list.
 fn visit(
     picture: &[u8],
     steps: &[u32],
+    table: &[usize; 256],
     n: usize,
     i: usize,
     ws: &mut [u32],
@@ -91,18 +113,17 @@ fn visit(
     indices: &mut [u16],
 )
     requires { ⌜ Visitable n (now picture) (now steps) (now ws) (now residues) (now indices) i ⌝ }
+    requires { ⌜ Small-places (now steps) (now table) ⌝ }
     ensures { λ _. ⌜ Progress n (now (picture .entry)) (now (steps .entry)) (take (3 * n) (now (ws .entry))) (now (ws .exit)) (now (residues .exit)) (now (indices .exit)) (i + 1) ⌝ }
 {
     let r = ws[2 * n + i] as usize;
     let a = ws[n + r];
-    if a == 0 {
-        return;
-    }
     let parent = ws[r] as usize;
     let start = 3 * n;
     settle(
         picture,
         steps,
+        table,
         r,
         parent,
         a,
@@ -116,17 +137,20 @@ fn visit(
 fn settle_nodes(
     picture: &[u8],
     steps: &[u32],
+    table: &[usize; 256],
     n: usize,
+    nodes: usize,
     ws: &mut [u32],
     residues: &mut [u8],
     indices: &mut [u16],
 )
-    requires { ⌜ Given n (now picture) (now steps) (take (3 * n) (now ws)) × Progress n (now picture) (now steps) (take (3 * n) (now ws)) (now ws) (now residues) (now indices) 0 ⌝ }
-    ensures { λ _. ⌜ Progress n (now (picture .entry)) (now (steps .entry)) (take (3 * n) (now (ws .entry))) (now (ws .exit)) (now (residues .exit)) (now (indices .exit)) n ⌝ }
+    requires { ⌜ Given n nodes (now picture) (now steps) (take (3 * n) (now ws)) × Progress n (now picture) (now steps) (take (3 * n) (now ws)) (now ws) (now residues) (now indices) 0 ⌝ }
+    requires { ⌜ Small-places (now steps) (now table) ⌝ }
+    ensures { λ _. ⌜ Progress n (now (picture .entry)) (now (steps .entry)) (take (3 * n) (now (ws .entry))) (now (ws .exit)) (now (residues .exit)) (now (indices .exit)) nodes ⌝ }
 {
     let mut i: usize = 0;
-    while i < n {
-        visit(picture, steps, n, i, ws, residues, indices);
+    while i < nodes {
+        visit(picture, steps, table, n, i, ws, residues, indices);
         i += 1;
     }
 }
@@ -147,18 +171,20 @@ fn spread(n: usize, ws: &[u32], residues: &mut [u8], indices: &mut [u16])
     }
 }
 
-// Both maps, from the record in the workspace and the pixels from dark to bright in its third part.
+// Both maps, from the record in the workspace and the representatives by rising level in its third part.
 pub fn write_maps(
     picture: &[u8],
     steps: &[u32],
+    nodes: usize,
     ws: &mut [u32],
     residues: &mut [u8],
     indices: &mut [u16],
 )
-    requires { ⌜ Ready (now picture) (now steps) (now ws) (now residues) (now indices) ⌝ }
-    ensures { λ _. ⌜ Written (now (picture .entry)) (now (steps .entry)) (now (ws .entry)) (now (ws .exit)) (now (residues .exit)) (now (indices .exit)) ⌝ }
+    requires { ⌜ Ready (now picture) (now steps) nodes (now ws) (now residues) (now indices) ⌝ }
+    ensures { λ _. ⌜ Written (now (picture .entry)) (now (steps .entry)) nodes (now (ws .entry)) (now (ws .exit)) (now (residues .exit)) (now (indices .exit)) ⌝ }
 {
     let n = picture.len();
-    settle_nodes(picture, steps, n, ws, residues, indices);
+    let table = small_places(steps);
+    settle_nodes(picture, steps, &table, n, nodes, ws, residues, indices);
     spread(n, ws, residues, indices);
 }

@@ -1,6 +1,6 @@
 -- How the tests of parsing decide its answer, and what the lent steps then hold.
 use Prim.Native.Nat.{ℕ, _+_, _≤_}
-use mathlib.Core.Path.{_≡_}
+use mathlib.Core.Path.{_≡_, ap}
 use mathlib.Core.Bool.{true, false, _&&_}
 use mathlib.Core.List.{List}
 use lib.Dec.{leb}
@@ -14,7 +14,8 @@ use Rattle.steps.specs.Fields.{attribute-of}
 use Rattle.steps.specs.Lines.{lines, well-formed, thresholds}
 use Rattle.calls.specs.Judging.{all-good, steps-good}
 use Rattle.opening.specs.Residue.{rising}
-use Rattle.steps.specs.Answer.{attribute-in, steps-in, parse-answer, steps-after}
+use Rattle.steps.specs.Answer.{attribute-in, steps-in, parse-answer, parsed-number, steps-after}
+use Rattle.steps.specs.declared.Parsed.{Parsed}
 use Rattle.steps.specs.declared.Parsed.the-variants.{Steps, Refused}
 use Rattle.steps.proofs.Splitting.{FirstLine}
 
@@ -23,6 +24,11 @@ unfolding steps-good
 steps-few steps e =
     let sized = both-true (leb 1 (length steps) && leb (length steps) 256) (rising 0 steps && all-good steps) e .0 in
     leb-true (length steps) 256 (both-true (leb 1 (length steps)) (leb (length steps) 256) sized .1)
+
+-- what holds of the answer and the lent steps after a call
+abbrev pub Called : List ℕ → List ℕ → Parsed → List ℕ → Type 0
+Called file lent answer now =
+    ((answer ≡ parse-answer file) × (now ≡ steps-after file lent)) × (parsed-number answer ≡ parsed-number (parse-answer file))
 
 module _ (file : List ℕ) where
   pub malformed : well-formed file ≡ false → Refused StepsFile ≡ parse-answer file
@@ -53,10 +59,10 @@ module _ (file : List ℕ) where
           unfolding parse-answer
           accepted = rw (good, attribute-first, ← is, ne-eqb attribute 0 known, steps-others, listed, ← total)
 
-          pub accepted-stored : (lent now : List ℕ) → now ≡ sets lent 0 (thresholds (lines (drop (end + 1) file))) → (Steps attribute count ≡ parse-answer file) × (now ≡ steps-after file lent)
+          pub accepted-stored : (lent now : List ℕ) → now ≡ sets lent 0 (thresholds (lines (drop (end + 1) file))) → Called file lent (Steps attribute count) now
           unfolding steps-after
-          accepted-stored lent now e = (accepted, rw (← accepted, steps-others) e)
+          accepted-stored lent now e = ((accepted, rw (← accepted, steps-others) e), ap parsed-number accepted)
 
-  pub refused-kept : {cause : Cause} (lent : List ℕ) → Refused cause ≡ parse-answer file → (Refused cause ≡ parse-answer file) × (lent ≡ steps-after file lent)
+  pub refused-kept : {cause : Cause} (lent : List ℕ) → Refused cause ≡ parse-answer file → Called file lent (Refused cause) lent
   unfolding steps-after
-  refused-kept lent e = (e, rw (← e))
+  refused-kept lent e = ((e, rw (← e)), ap parsed-number e)

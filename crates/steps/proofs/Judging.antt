@@ -10,15 +10,12 @@ use lib.Dec.{eqb, leb}
 use lib.ListN.{length, take, drop, set, drop-of-length-le}
 use lib.Seq.{sets}
 use borrow.Author.Tests.{le-leb, lt-leb, lt-ltb, le-ltb, eqb-true, eqb-false}
+use Rattle.sets.proofs.Tests.{and-false}
 use Rattle.causes.proofs.Laws.{both-true}
 use Rattle.steps.specs.Lines.{lines, step-line, step-lines, threshold, thresholds, StepLines}
 use Rattle.calls.specs.Judging.{threshold-good, all-good, steps-good}
 use Rattle.opening.specs.Residue.{rising}
 use Rattle.steps.proofs.Splitting.{NextLine}
-
-and-false : (b : Bool) → (b && false) ≡ false
-and-false true = refl
-and-false false = refl
 
 -- whether thresholds after `count` others, the last of which is low, make a step list
 unfoldable pub rest-good : ℕ → ℕ → List ℕ → Bool

@@ -9,20 +9,22 @@ use lib.Dec.{eqb}
 use lib.ListN.{length, take, drop}
 use lib.Seq.{sets-eq, take-at}
 use borrow.Author.Tests.{not-true, eqb-false}
+use Rattle.causes.specs.Causes.{must}
 use Rattle.causes.specs.declared.Cause.{Cause}
 use Rattle.causes.specs.declared.Cause.the-variants.{Attribute, Steps as BadSteps, StepsFile}
+use Rattle.causes.proofs.Refusing.{must-passed}
 use Rattle.steps.specs.Fields.{same, area, height, width, attribute-of}
 use Rattle.steps.specs.Lines.{lines, word-on, well-formed}
 use Rattle.calls.specs.Judging.{steps-good}
-use Rattle.steps.specs.Answer.{attribute-in, steps-in, must, parse-answer, steps-after}
+use Rattle.steps.specs.Answer.{attribute-in, steps-in, parse-answer, steps-after}
 use Rattle.steps.specs.declared.Parsed.{Parsed}
-use Rattle.steps.specs.declared.Parsed.the-variants.{Steps}
+use Rattle.steps.specs.declared.Parsed.the-variants.{Steps, Refused}
 use Rattle.steps.proofs.Answering.{steps-few}
 
 -- a test that did not refuse
-must-steps : (b : Bool) (cause : Cause) (answer : Parsed) (attribute count : ℕ) → must b cause answer ≡ Steps attribute count → (b ≡ true) × (answer ≡ Steps attribute count)
-must-steps true cause answer attribute count e = (refl, e)
-must-steps false cause answer attribute count e = let z : _≡_ {A = ℕ} 0 1 = cc in absurd (omega arith)
+must-steps : (b : Bool) (cause : Cause) (answer : Parsed) (attribute count : ℕ) → must Refused b cause answer ≡ Steps attribute count → (b ≡ true) × (answer ≡ Steps attribute count)
+must-steps b cause answer attribute count e =
+    must-passed Refused b cause answer (Steps attribute count) (λ f. let z : _≡_ {A = ℕ} 0 1 = cc in omega arith) e
 
 attribute-most : (word : List ℕ) → attribute-of word ≤ 3
 unfolding attribute-of
@@ -46,8 +48,8 @@ pub record Accepted (file : List ℕ) (attribute count : ℕ) : Type 0 where
 pub accepted-file : (file : List ℕ) (attribute count : ℕ) → parse-answer file ≡ Steps attribute count → Accepted file attribute count
 unfolding parse-answer attribute-in
 accepted-file file attribute count e =
-    let judged : Parsed = must (steps-good (steps-in file)) BadSteps (Steps (attribute-in file) (length (steps-in file))) in
-    let a = must-steps (well-formed file) StepsFile (must (not (eqb (attribute-in file) 0)) Attribute judged) attribute count e in
+    let judged : Parsed = must Refused (steps-good (steps-in file)) BadSteps (Steps (attribute-in file) (length (steps-in file))) in
+    let a = must-steps (well-formed file) StepsFile (must Refused (not (eqb (attribute-in file) 0)) Attribute judged) attribute count e in
     let b = must-steps (not (eqb (attribute-in file) 0)) Attribute judged attribute count (a .1) in
     let c = must-steps (steps-good (steps-in file)) BadSteps (Steps (attribute-in file) (length (steps-in file))) attribute count (b .1) in
     let answer : Steps (attribute-in file) (length (steps-in file)) ≡ Steps attribute count = c .1 in

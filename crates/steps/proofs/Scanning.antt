@@ -7,19 +7,11 @@ use native.Mathlib.Numerals.{add-one}
 use native.Mathlib.Nat.{pow-suc, pow-le-pow-right}
 use native.Mathlib.Omega.{arith}
 use lib.Dec.{eqb, leb}
-use lib.ListN.{length, getD, take, drop, drop-of-length-le, length-drop}
-use lib.Seq.{drop-cons, take-all}
+use lib.ListN.{length, getD, drop, drop-of-length-le}
 use borrow.Author.Tests.{le-leb, lt-leb, leb-true, eq-eqb, ne-eqb}
 use Rattle.causes.proofs.Laws.{both-true}
+use Rattle.causes.proofs.Lists.{from-here}
 use Rattle.steps.specs.Fields.{all-between, field, value-after, starts-with}
-
--- the bytes from a position on are the byte there and the bytes after it
-pub from-here : (s : List ℕ) (i : ℕ) → i < length s → drop i s ≡ getD s i 0 ∷ drop (i + 1) s
-from-here s i h = rw (add-one, drop-cons s i 0)
-
--- the part from a position to the end
-pub to-end : (s : List ℕ) (i : ℕ) → take (length s - i) (drop i s) ≡ drop i s
-to-end s i = take-all (length s - i) (drop i s) (omega (arith, length-drop i s))
 
 -- the bytes before i are of low to high: what is left to judge is the rest
 pub record BetweenSoFar (low high : ℕ) (s : List ℕ) (i : ℕ) : Type 0 where

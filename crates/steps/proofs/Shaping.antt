@@ -7,9 +7,10 @@ use lib.Dec.{eqb, leb}
 use lib.ListN.{length, getD, take, drop, drop-of-length-le}
 use borrow.Author.Tests.{le-leb, lt-leb, leb-true, eq-eqb, ne-eqb}
 use Rattle.causes.proofs.Laws.{both-true}
+use Rattle.causes.proofs.Lists.{to-end}
 use Rattle.steps.specs.Fields.{all-between, field, is-word, is-number, no-leading-zero, value-after, starts-with, same, area, height, width, attribute-of}
 use Rattle.steps.specs.Lines.{ends-line, lines, attribute-head, step-head, attribute-line, step-line, step-lines, shaped, well-formed, StepLines, threshold}
-use Rattle.steps.proofs.Scanning.{to-end, starts-long}
+use Rattle.steps.proofs.Scanning.{starts-long}
 use Rattle.steps.proofs.Splitting.{NextLine, FirstLine}
 
 -- a field, by its length and its bytes

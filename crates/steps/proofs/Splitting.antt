@@ -9,8 +9,8 @@ use lib.Dec.{eqb}
 use lib.ListN.{length, getD, take, drop, drop-of-length-le, length-drop}
 use lib.Seq.{getD-drop, drop-drop, length-take-le}
 use borrow.Author.Tests.{eq-eqb, ne-eqb, eqb-true}
+use Rattle.causes.proofs.Lists.{from-here}
 use Rattle.steps.specs.Lines.{ends-line, longer, lines, line-length}
-use Rattle.steps.proofs.Scanning.{from-here}
 
 pub ends-none : (file : List ℕ) → length file ≡ 0 → false ≡ ends-line file
 unfolding ends-line

@@ -1,11 +1,11 @@
 -- What parsing a steps file answers, and what the lent steps then hold.
 use Prim.Native.Nat.{ℕ}
-use mathlib.Core.Bool.{Bool, true, false, not}
+use mathlib.Core.Bool.{not}
 use mathlib.Core.List.{List}
 use lib.ListN.{length}
 use lib.Seq.{sets}
 use lib.Dec.{eqb}
-use Rattle.causes.specs.declared.Cause.{Cause}
+use Rattle.causes.specs.Causes.{number-of, must}
 use Rattle.causes.specs.declared.Cause.the-variants.{Attribute, Steps as BadSteps, StepsFile}
 use Rattle.steps.specs.Fields.{attribute-of}
 use Rattle.steps.specs.Lines.{lines, well-formed, word-on, listed}
@@ -20,17 +20,17 @@ attribute-in file = attribute-of (word-on (lines file))
 unfoldable pub steps-in : List ℕ → List ℕ
 steps-in file = listed (lines file)
 
--- the answer where the test holds, else the refusal with the cause
-abbrev pub must : Bool → Cause → Parsed → Parsed
-must true cause answer = answer
-must false cause answer = Refused cause
-
 -- The program's order "13, 3, 4": the file's shape, its word, its steps
 unfoldable pub parse-answer : List ℕ → Parsed
 parse-answer file =
-    must (well-formed file) StepsFile
-    (must (not (eqb (attribute-in file) 0)) Attribute
-    (must (steps-good (steps-in file)) BadSteps (Steps (attribute-in file) (length (steps-in file)))))
+    must Refused (well-formed file) StepsFile
+    (must Refused (not (eqb (attribute-in file) 0)) Attribute
+    (must Refused (steps-good (steps-in file)) BadSteps (Steps (attribute-in file) (length (steps-in file)))))
+
+-- the number of an answer: 0 for steps, else that of the cause
+abbrev pub parsed-number : Parsed → ℕ
+parsed-number (Steps attribute count) = 0
+parsed-number (Refused cause) = number-of cause
 
 -- the thresholds are stored from the first entry on, and the entries after them stay; a refusal leaves every entry as it was
 abbrev pub steps-with : Parsed → List ℕ → List ℕ → List ℕ

@@ -5,3 +5,5 @@ pub mod Climb
 pub mod Forest
 pub mod Record
 pub mod Words
+pub mod Reading
+pub mod Relabel

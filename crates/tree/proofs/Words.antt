@@ -21,6 +21,10 @@ use Rattle.tree.specs.Tree.{representative, parent-representative, is-re
 use Rattle.tree.proofs.Together.{Together}
 use Rattle.tree.proofs.Representatives.{representative-le}
 
+-- a set with a pixel in it has an attribute above 0
+abbrev pub Positive : ℕ → (Positions → ℕ) → Type 0
+Positive n attr = (s : Positions) (q : ℕ) → q < n → s q ≡ true → 1 ≤ attr s
+
 module _ (n : ℕ) (adj : Adjacency) (attr : Positions → ℕ) (g : ℕ → ℕ) where
   length-parents : length (parents n adj g) ≡ n
   unfolding parents
@@ -69,7 +73,7 @@ module _ (n : ℕ) (adj : Adjacency) (attr : Positions → ℕ) (g : ℕ → ℕ
     pub lower : representative n adj g p < p
     pub is-zero : word ≡ 0
 
-  pub words : Symmetric adj → ((s : Positions) (q : ℕ) → q < n → s q ≡ true → 1 ≤ attr s) → (p : ℕ) → p < n
+  pub words : Symmetric adj → Positive n attr → (p : ℕ) → p < n
       → Of-representative p (parent-word n adj g p) (attribute-word n adj attr g p)
       ⊎ Of-other p (parent-word n adj g p) (attribute-word n adj attr g p)
   unfolding parent-word attribute-word is-representative

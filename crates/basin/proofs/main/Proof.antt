@@ -1,15 +1,10 @@
 -- `basin::main` is safe and ends: no more bytes are loaded than there is room for. Assumes nothing but the contracts of the C library.
-use lib.ListN.{length}
+use mathlib.Core.Path.{sym, _∙_}
 use Rattle.basin.proofs.Lending.{taken, loaded-room}
+use Rattle.basin.proofs.Jobs.{both-loaded}
 use borrow.Author.Needs.{needs}
-use native.Mathlib.Omega.{arith}
 use Rattle.basin.proofs.main.Statement.{statement}
 use Rattle.basin.proofs.main.Tie as tie
-use Rattle.basin.proofs.main.Reads as reads
-use Rattle.basin.proofs.main.Lts as lts
-use Rattle.basin.proofs.files.load.Reads as load-reads
-use Rattle.basin.proofs.lines.refused.Reads as refused-reads
-use Rattle.basin.proofs.with_picture.Reads as with-picture-reads
 
 slice-aggregate-load : tie.Need-slice-aggregate-load
 slice-aggregate-load c = search needs
@@ -29,11 +24,29 @@ slice-aggregate-load-4 c = search needs
 load-requires-2 : tie.Need-load-requires-2
 load-requires-2 c κs = search needs
 
-enum-known-a : tie.Need-enum-known-a
-enum-known-a c = search needs
+both-requires : tie.Need-both-requires
+both-requires c κs = search needs
 
-enum-told : tie.Need-enum-told
-enum-told c = search needs
+enum-known-picture : tie.Need-enum-known-picture
+enum-known-picture c = search needs
+
+array-share-prefix-file : tie.Need-array-share-prefix-file
+array-share-prefix-file c = loaded-room (c .before .before .before .before .before .before .before .before .before .load .result) _ _ (c .before .before .before .before .before .before .before .before .before .load .ensures) (both-loaded (c .before .before .before .before .before .before .before .before .before .load .result) (c .before .before .before .before .before .load2 .result) _ _ (sym (c .before .before .before .both .ensures) ∙ c .before .picture .given .1) .0)
+
+slice-aggregate-answer : tie.Need-slice-aggregate-answer
+slice-aggregate-answer c = taken _ _ (loaded-room (c .before .before .before .before .before .before .before .before .before .before .load .result) _ _ (c .before .before .before .before .before .before .before .before .before .before .load .ensures) (both-loaded (c .before .before .before .before .before .before .before .before .before .before .load .result) (c .before .before .before .before .before .before .load2 .result) _ _ (sym (c .before .before .before .before .both .ensures) ∙ c .before .before .picture .given .1) .0))
+
+array-share-prefix-steps : tie.Need-array-share-prefix-steps
+array-share-prefix-steps c = loaded-room (c .before .before .before .before .before .before .load2 .result) _ _ (c .before .before .before .before .before .before .load2 .ensures) (both-loaded (c .before .before .before .before .before .before .before .before .before .before .load .result) (c .before .before .before .before .before .before .load2 .result) _ _ (sym (c .before .before .before .before .both .ensures) ∙ c .before .before .picture .given .1) .1)
+
+slice-aggregate-answer-2 : tie.Need-slice-aggregate-answer-2
+slice-aggregate-answer-2 c = taken _ _ (loaded-room (c .before .before .before .before .before .before .before .load2 .result) _ _ (c .before .before .before .before .before .before .before .load2 .ensures) (both-loaded (c .before .before .before .before .before .before .before .before .before .before .before .load .result) (c .before .before .before .before .before .before .before .load2 .result) _ _ (sym (c .before .before .before .before .before .both .ensures) ∙ c .before .before .before .picture .given .1) .1))
+
+answer-requires : tie.Need-answer-requires
+answer-requires c κs = search needs
+
+enum-known-cause : tie.Need-enum-known-cause
+enum-known-cause c = search needs
 
 refused-requires : tie.Need-refused-requires
 refused-requires c κs = search needs
@@ -41,49 +54,8 @@ refused-requires c κs = search needs
 returns : tie.Need-returns
 returns c = search needs
 
-enum-known-b : tie.Need-enum-known-b
-enum-known-b c = search needs
-
-enum-told-2 : tie.Need-enum-told-2
-enum-told-2 c = search needs
-
-refused-requires-2 : tie.Need-refused-requires-2
-refused-requires-2 c κs = search needs
-
 returns-2 : tie.Need-returns-2
 returns-2 c = search needs
-
-refused-requires-3 : tie.Need-refused-requires-3
-refused-requires-3 c κs = search needs
-
-returns-3 : tie.Need-returns-3
-returns-3 c = search needs
-
-refused-requires-4 : tie.Need-refused-requires-4
-refused-requires-4 c κs = search needs
-
-returns-4 : tie.Need-returns-4
-returns-4 c = search needs
-
-array-share-prefix-picture : tie.Need-array-share-prefix-picture
-array-share-prefix-picture c = search needs
-
-slice-aggregate-with-picture : tie.Need-slice-aggregate-with-picture
-slice-aggregate-with-picture c =
-    taken (c .before .before .before .before .before .before .before .before .before .before .before .before .before .before .load .last .1 .0) (c .before .before .before .before .before .before .before .a .given .0 .0) (loaded-room (c .before .before .before .before .before .before .before .before .before .before .before .before .before .before .load .result) (c .before .before .before .before .before .before .before .a .given .0 .0) (length (c .before .before .before .before .before .before .before .before .before .before .before .before .before .before .load .last .1 .0)) (c .before .before .before .before .before .before .before .before .before .before .before .before .before .before .load .ensures) (c .before .before .before .before .before .before .before .a .given .1))
-
-array-share-prefix-list : tie.Need-array-share-prefix-list
-array-share-prefix-list c = search needs
-
-slice-aggregate-with-picture-2 : tie.Need-slice-aggregate-with-picture-2
-slice-aggregate-with-picture-2 c =
-    taken (c .before .before .before .before .before .before .before .before .before .before .before .load2 .last .1 .0) (c .before .before .before .before .before .b .given .0 .0) (loaded-room (c .before .before .before .before .before .before .before .before .before .before .before .load2 .result) (c .before .before .before .before .before .b .given .0 .0) (length (c .before .before .before .before .before .before .before .before .before .before .before .load2 .last .1 .0)) (c .before .before .before .before .before .before .before .before .before .before .before .load2 .ensures) (c .before .before .before .before .before .b .given .1))
-
-with-picture-requires : tie.Need-with-picture-requires
-with-picture-requires c κs = search needs
-
-returns-5 : tie.Need-returns-5
-returns-5 c = search needs
 
 pub main-spec : {M : Type 1} → statement M
 main-spec =
@@ -95,21 +67,14 @@ main-spec =
     slice-aggregate-load-3
     slice-aggregate-load-4
     load-requires-2
-    enum-known-a
-    enum-told
+    both-requires
+    enum-known-picture
+    array-share-prefix-file
+    slice-aggregate-answer
+    array-share-prefix-steps
+    slice-aggregate-answer-2
+    answer-requires
+    enum-known-cause
     refused-requires
     returns
-    enum-known-b
-    enum-told-2
-    refused-requires-2
-    returns-2
-    refused-requires-3
-    returns-3
-    refused-requires-4
-    returns-4
-    array-share-prefix-picture
-    slice-aggregate-with-picture
-    array-share-prefix-list
-    slice-aggregate-with-picture-2
-    with-picture-requires
-    returns-5)
+    returns-2)

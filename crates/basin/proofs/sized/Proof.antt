@@ -12,8 +12,8 @@ use Rattle.basin.proofs.sized.Statement.{statement}
 use Rattle.basin.proofs.sized.Tie as tie
 use Rattle.basin.proofs.sized.Reads as reads
 use Rattle.basin.proofs.sized.Lts as lts
-use Rattle.basin.proofs.lines.listing.Reads as listing-reads
-use Rattle.basin.proofs.lines.refused.Reads as refused-reads
+use Rattle.basin.proofs.listing.Reads as listing-reads
+use Rattle.basin.proofs.refused.Reads as refused-reads
 use Rattle.residues.proofs.map.Reads as map-reads
 
 mul-map : tie.Need-mul-map

@@ -1,4 +1,4 @@
--- `flood` meets its contract. The counts give the starts of the runs, the parents are reset, and the first pixel in its queue makes the
+-- `flood` meets its contract. The counts give the starts of the runs, the parents are filled, and the first pixel in its queue makes the
 -- flood ready to run.
 use native.Mathlib.Omega.{arith}
 use borrow.Author.Needs.{needs}
@@ -12,20 +12,32 @@ count-levels-requires c κs = search needs
 run-starts-requires : tie.Need-run-starts-requires
 run-starts-requires c κs = counts-fit (c .count-levels .ensures) (c .before .before .before .pre .sized .small)
 
-sub-reset : tie.Need-sub-reset
-sub-reset c = search needs
+array-write-roots : tie.Need-array-write-roots
+array-write-roots c = search needs
 
-part-reset-start : tie.Need-part-reset-start
-part-reset-start c = search needs
+array-write-roots-2 : tie.Need-array-write-roots-2
+array-write-roots-2 c = search needs
 
-part-reset-end : tie.Need-part-reset-end
-part-reset-end c = search needs
+array-write-roots-3 : tie.Need-array-write-roots-3
+array-write-roots-3 c = search needs
 
-cast-reset : tie.Need-cast-reset
-cast-reset c = search needs
+array-write-roots-4 : tie.Need-array-write-roots-4
+array-write-roots-4 c = search needs
 
-reset-requires : tie.Need-reset-requires
-reset-requires c κs = search needs
+sub-fill : tie.Need-sub-fill
+sub-fill c = search needs
+
+part-fill-start : tie.Need-part-fill-start
+part-fill-start c = search needs
+
+part-fill-end : tie.Need-part-fill-end
+part-fill-end c = search needs
+
+cast-fill : tie.Need-cast-fill
+cast-fill c = search needs
+
+fill-requires : tie.Need-fill-requires
+fill-requires c κs = search needs
 
 shared-slice-read-first : tie.Need-shared-slice-read-first
 shared-slice-read-first c = search needs
@@ -38,25 +50,25 @@ push-requires c κs =
     let reset = c .before .before .before .before .before .before in
     let starts = reset .before .before in
     let start = reset .before .before .before .before .before .before in
-    let part = reset .reset .last .0 in
+    let part = reset .fill .last .0 in
     let sized = start .pre .sized in
-    let kept = reset .reset .kept .0 in
+    let kept = reset .fill .kept .0 in
     first-fits
     (start .pre)
     (λ x. c .before .before .before .shared-slice-known2 .given x .fits)
     (starts .before .count-levels .ensures)
     (starts .run-starts .ensures)
     (reset-sized part sized kept)
-    (reset-unmet part sized kept (reset .reset .ensures))
+    (reset-unmet part sized kept (reset .fill .ensures))
 
 run-requires : tie.Need-run-requires
 run-requires c κs =
     let reset = c .before .before .before .before .before .before .before .before .before .before .before .before .before in
     let starts = reset .before .before in
     let start = reset .before .before .before .before .before .before in
-    let part = reset .reset .last .0 in
+    let part = reset .fill .last .0 in
     let sized = start .pre .sized in
-    let kept = reset .reset .kept .0 in
+    let kept = reset .fill .kept .0 in
     let first = c .before .before .before .before .before .before .push in
     first-ready
     (start .pre)
@@ -64,7 +76,7 @@ run-requires c κs =
     (starts .before .count-levels .ensures)
     (starts .run-starts .ensures)
     (reset-sized part sized kept)
-    (reset-unmet part sized kept (reset .reset .ensures))
+    (reset-unmet part sized kept (reset .fill .ensures))
     (first .ensures)
     (first .kept .1 .1 .1 .0)
 
@@ -80,11 +92,15 @@ flood-spec =
     (tie.spec
     count-levels-requires
     run-starts-requires
-    sub-reset
-    part-reset-start
-    part-reset-end
-    cast-reset
-    reset-requires
+    array-write-roots
+    array-write-roots-2
+    array-write-roots-3
+    array-write-roots-4
+    sub-fill
+    part-fill-start
+    part-fill-end
+    cast-fill
+    fill-requires
     shared-slice-read-first
     cast-first
     push-requires

@@ -1,9 +1,10 @@
-use Rattle.pgm.proofs.Judging.{judged-broken, some-pixels, starts-within, to-end}
+use Rattle.pgm.proofs.Judging.{judged-broken, some-pixels, starts-within}
 -- `pgm::judge` meets its contract: the first test that fails decides. Assumes nothing.
 use mathlib.Core.Path.{_∙_, sym, ap}
 use lib.Dec.{eqb}
 use denote.Ref.{now}
 use borrow.Author.Tests.{not-true, not-false}
+use Rattle.causes.proofs.Lists.{to-end}
 use Rattle.pgm.specs.Read.{judged}
 use Rattle.pgm.specs.Samples.{largest}
 use Rattle.pgm.proofs.Judging.{judged-maximum, judged-sides, judged-length, judged-sample, judged-picture, samples-above, samples-within}

@@ -2,7 +2,8 @@
 use mathlib.Core.Path.{_∙_}
 use lib.ListN.{length-set}
 use denote.Ref.{now}
-use Rattle.pgm.proofs.Files.{file-length, file-stored, length-two}
+use Rattle.causes.proofs.Lists.{length-two}
+use Rattle.pgm.proofs.Files.{file-length, file-stored}
 use borrow.Author.Needs.{needs}
 use native.Mathlib.Omega.{arith}
 use Rattle.pgm.proofs.put_file.Statement.{statement}

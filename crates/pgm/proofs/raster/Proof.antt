@@ -23,18 +23,18 @@ slice-aggregate-result : tie.Need-slice-aggregate-result
 slice-aggregate-result c = search needs
 
 returns : tie.Need-returns
-returns c = raster-refused _ _ (sym (c .before .before .before .read .ensures) ∙ c .before .enum-told .given .1)
+returns c = raster-refused _ _ (sym (c .before .before .before .read .ensures .0) ∙ c .before .enum-told .given .1)
 
 pixels-requires : tie.Need-pixels-requires
-pixels-requires c κs = accepted _ _ _ _ _ (sym (c .before .before .before .read .ensures) ∙ c .before .width .given .1) .sides-right
+pixels-requires c κs = accepted _ _ _ _ _ (sym (c .before .before .before .read .ensures .0) ∙ c .before .width .given .1) .sides-right
 
 raster-from-requires : tie.Need-raster-from-requires
 raster-from-requires c κs =
-    raster-within _ _ _ _ _ _ (sym (c .before .before .before .before .read .ensures) ∙ c .before .before .width .given .1) (c .pixels .ensures)
+    raster-within _ _ _ _ _ _ (sym (c .before .before .before .before .read .ensures .0) ∙ c .before .before .width .given .1) (c .pixels .ensures)
 
 returns-2 : tie.Need-returns-2
 returns-2 c =
-    c .raster-from .ensures ∙ raster-accepted _ _ _ _ _ _ (sym (c .before .before .before .before .before .read .ensures) ∙ c .before .before .before .width .given .1) (c .before .pixels .ensures)
+    c .raster-from .ensures ∙ raster-accepted _ _ _ _ _ _ (sym (c .before .before .before .before .before .read .ensures .0) ∙ c .before .before .before .width .given .1) (c .before .pixels .ensures)
 
 pub raster-spec : {M : Type 1} → statement M
 raster-spec =

@@ -1,6 +1,7 @@
 use Rattle.pgm.proofs.Judging.{writable-is, fields-fit, buffer-written, buffer-kept}
 -- `pgm::write` meets its contract. Assumes nothing.
-use mathlib.Core.Path.{_∙_, sym}
+use mathlib.Core.Path.{_∙_, sym, ap}
+use Rattle.pgm.specs.Write.{written-number}
 use borrow.Author.Needs.{needs}
 use native.Mathlib.Omega.{arith}
 use Rattle.pgm.proofs.write.Statement.{statement}
@@ -28,14 +29,14 @@ same-length : tie.Need-same-length
 same-length c = search needs
 
 returns : tie.Need-returns
-returns c = (
-  sym (c .before .before .before .before .before .needed .given .1) ∙ c .before .before .before .before .before .before .before .writable .ensures,
-  c .before .before .put-file .ensures ∙ buffer-written _ _ _ _ _ _ (sym (c .before .before .before .before .before .before .before .writable .ensures) ∙ c .before .before .before .before .before .needed .given .1),
-)
+returns c =
+    let e = sym (c .before .before .before .before .before .needed .given .1) ∙ c .before .before .before .before .before .before .before .writable .ensures in
+    ((e, c .before .before .put-file .ensures ∙ buffer-written _ _ _ _ _ _ (sym e)), ap written-number e)
 
 returns-2 : tie.Need-returns-2
 returns-2 c =
-    (sym (c .before .cause .given .1) ∙ c .before .before .before .writable .ensures, buffer-kept _ _ _ _ _ _ (sym (c .before .before .before .writable .ensures) ∙ c .before .cause .given .1))
+    let e = sym (c .before .cause .given .1) ∙ c .before .before .before .writable .ensures in
+    ((e, buffer-kept _ _ _ _ _ _ (sym e)), ap written-number e)
 
 pub write-spec : {M : Type 1} → statement M
 write-spec =

@@ -34,6 +34,9 @@ enum-told c = search needs
 build-ordered-requires : tie.Need-build-ordered-requires
 build-ordered-requires c κs = build-asks (judged (c .before .before .before)) (c .before .enum-told .given .1)
 
+cast-write-maps : tie.Need-cast-write-maps
+cast-write-maps c = search needs
+
 write-maps-requires : tie.Need-write-maps-requires
 write-maps-requires c κs =
     passes-ask
@@ -47,7 +50,7 @@ clear-scratch-requires c κs =
     (judged (c .before .before .before .before .before .before .before .before .before .before .before .before .before .before .before .before .before))
     (c .before .before .before .before .before .before .before .before .before .before .before .before .before .before .before .enum-told .given .1)
     (c .before .before .before .before .before .before .before .before .before .before .before .before .before .build-ordered .ensures)
-    (c .before .before .before .before .before .before .before .write-maps .kept .1 .1 .0)
+    (c .before .before .before .before .before .before .before .write-maps .kept .1 .1 .1 .0)
 
 same-length : tie.Need-same-length
 same-length c = search needs
@@ -78,6 +81,7 @@ map-spec =
     returns
     enum-told
     build-ordered-requires
+    cast-write-maps
     write-maps-requires
     clear-scratch-requires
     same-length

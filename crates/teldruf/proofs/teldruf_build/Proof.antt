@@ -30,14 +30,14 @@ same-length c = search needs
 
 returns : tie.Need-returns
 returns c =
-    (ap built-code (sym (c .before .total .given .1) ∙ c .before .before .before .before .before .build .ensures .0), c .before .before .before .before .before .build .ensures .1)
+    (ap built-code (sym (c .before .total .given .1) ∙ c .before .before .before .before .before .build .ensures .0), c .before .before .before .before .before .build .ensures .1 .1)
 
 same-length-2 : tie.Need-same-length-2
 same-length-2 c = search needs
 
 returns-2 : tie.Need-returns-2
 returns-2 c =
-    (c .refused .ensures ∙ ap built-code (sym (c .before .before .cause .given .1) ∙ c .before .before .before .before .before .before .build .ensures .0), c .before .before .before .before .before .before .build .ensures .1)
+    (c .refused .ensures ∙ ap built-code (sym (c .before .before .cause .given .1) ∙ c .before .before .before .before .before .before .build .ensures .0), c .before .before .before .before .before .before .build .ensures .1 .1)
 
 pub teldruf-build-spec : {M : Type 1} → statement M
 teldruf-build-spec =

@@ -41,11 +41,11 @@ refused-requires c κs = search needs
 
 returns : tie.Need-returns
 returns c =
-    let e = sym (c .before .width .given .1) ∙ c .before .before .before .read .ensures in (ap found-code e, ap (λ (f : Found). head-with f (now (c .before .before .before .before .before .args .head))) e)
+    let e = sym (c .before .width .given .1) ∙ c .before .before .before .read .ensures .0 in (ap found-code e, ap (λ (f : Found). head-with f (now (c .before .before .before .before .before .args .head))) e)
 
 returns-2 : tie.Need-returns-2
 returns-2 c =
-    let e = sym (c .before .before .cause .given .1) ∙ c .before .before .before .before .read .ensures in
+    let e = sym (c .before .before .cause .given .1) ∙ c .before .before .before .before .read .ensures .0 in
     (c .refused .ensures ∙ ap found-code e, ap (λ (f : Found). head-with f (now (c .before .before .before .before .before .before .args .head))) e)
 
 pub teldruf-read-pgm-spec : {M : Type 1} → statement M

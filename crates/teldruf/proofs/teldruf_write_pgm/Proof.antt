@@ -27,14 +27,14 @@ same-length c = search needs
 
 returns : tie.Need-returns
 returns c =
-    (ap written-code (sym (c .before .total .given .1) ∙ c .before .before .before .before .before .write .ensures .0), c .before .before .before .before .before .write .ensures .1)
+    (ap written-code (sym (c .before .total .given .1) ∙ c .before .before .before .before .before .write .ensures .0 .0), c .before .before .before .before .before .write .ensures .0 .1)
 
 same-length-2 : tie.Need-same-length-2
 same-length-2 c = search needs
 
 returns-2 : tie.Need-returns-2
 returns-2 c =
-    (c .refused .ensures ∙ ap written-code (sym (c .before .before .cause .given .1) ∙ c .before .before .before .before .before .before .write .ensures .0), c .before .before .before .before .before .before .write .ensures .1)
+    (c .refused .ensures ∙ ap written-code (sym (c .before .before .cause .given .1) ∙ c .before .before .before .before .before .before .write .ensures .0 .0), c .before .before .before .before .before .before .write .ensures .0 .1)
 
 pub teldruf-write-pgm-spec : {M : Type 1} → statement M
 teldruf-write-pgm-spec =

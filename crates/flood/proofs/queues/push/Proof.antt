@@ -27,6 +27,27 @@ mul-roots c = search needs
 element-write-roots : tie.Need-element-write-roots
 element-write-roots c = search needs
 
+add-roots : tie.Need-add-roots
+add-roots c = search needs
+
+mul-roots-2 : tie.Need-mul-roots-2
+mul-roots-2 c = search needs
+
+element-copy-out-roots : tie.Need-element-copy-out-roots
+element-copy-out-roots c = search needs
+
+shl-roots : tie.Need-shl-roots
+shl-roots c = search needs
+
+add-roots-2 : tie.Need-add-roots-2
+add-roots-2 c = search needs
+
+mul-roots-3 : tie.Need-mul-roots-3
+mul-roots-3 c = search needs
+
+element-write-roots-2 : tie.Need-element-write-roots-2
+element-write-roots-2 c = search needs
+
 add-tails : tie.Need-add-tails
 add-tails c = search needs
 
@@ -38,8 +59,8 @@ element-write-tails c = search needs
 
 cast-ws : tie.Need-cast-ws
 cast-ws c =
-    let at = c .before .before .before .before in
-    omega (arith, c .before .root-or .ensures, root-or-lt _ _ _ (at .pre .root) (at .pre .within), at .pre .sized .small)
+    let at = c .before .before .before .before .before in
+    omega (arith, c .before .before .root-or .ensures, root-or-lt _ _ _ (at .pre .root) (at .pre .within), at .pre .sized .small)
 
 mul-ws : tie.Need-mul-ws
 mul-ws c = search needs
@@ -61,14 +82,14 @@ mul-ws-3 c = search needs
 
 slice-write-ws-2 : tie.Need-slice-write-ws-2
 slice-write-ws-2 c =
-    let at = c .before .before .before .before in
+    let at = c .before .before .before .before .before in
     simp length-set (omega (arith, at .pre .sized .words, at .pre .free))
 
 same-length : tie.Need-same-length
 same-length c = search needs
 
 returns : tie.Need-returns
-returns c = placing (c .before .before .before .before .pre) (c .before .root-or .ensures)
+returns c = placing (c .before .before .before .before .before .pre) (c .before .before .root-or .ensures)
 
 pub push-spec : {M : Type 1} → statement M
 push-spec =
@@ -81,6 +102,13 @@ push-spec =
     element-copy-out-t
     mul-roots
     element-write-roots
+    add-roots
+    mul-roots-2
+    element-copy-out-roots
+    shl-roots
+    add-roots-2
+    mul-roots-3
+    element-write-roots-2
     add-tails
     mul-tails
     element-write-tails

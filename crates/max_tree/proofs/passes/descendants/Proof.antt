@@ -11,13 +11,13 @@ use Rattle.max_tree.proofs.passes.descendants.Statement.{statement}
 use Rattle.max_tree.proofs.passes.descendants.Tie as tie
 
 abbrev Inv-loop : tie.InvT-loop
-Inv-loop picture attribute ws₀ n i₀ ws i = Pouring attribute picture ws₀ ws i
+Inv-loop picture attribute nodes ws₀ n i₀ ws i = Pouring attribute picture ws₀ nodes ws i
 
 abbrev μ-loop : tie.MeasureT-loop
-μ-loop picture attribute ws₀ n i₀ ws i = i
+μ-loop picture attribute nodes ws₀ n i₀ ws i = i
 
 loop-holds : tie.Need-loop-holds Inv-loop μ-loop
-loop-holds c = pouring-none _ _ _ (c .before .before .pre)
+loop-holds c = pouring-none _ _ _ _ (c .before .before .pre)
 
 sub-i : tie.Need-sub-i Inv-loop μ-loop
 sub-i c = search needs
@@ -39,10 +39,10 @@ cast-q c = omega (arith, c .slice-known2 .given (2 * length (c .before .before .
 
 -- the pixel that is taken
 pixel-is : (c : tie.After-slice-known2 Inv-loop μ-loop) → getD (c .before .before .loop .ws) (2 * length (c .before .before .before .before .before .args .picture .now) + (c .before .before .loop .i - 1)) 0 ≡ order-of (length (c .before .before .before .before .before .args .picture .now)) (c .before .before .before .before .before .args .ws .now) (c .before .before .loop .i - 1)
-pixel-is c = c .before .before .loop .inv .kept _ (omega (arith, c .before .before .loop .inv .top))
+pixel-is c = c .before .before .loop .inv .rest _ (omega arith)
 
 pour-requires : tie.Need-pour-requires Inv-loop μ-loop
-pour-requires c κs = pour-asked _ _ _ (c .before .before .before .before .before .before .pre) _ _ _ (omega arith) (c .before .before .before .loop .inv) (pixel-is (c .before))
+pour-requires c κs = pour-asked _ _ _ _ (c .before .before .before .before .before .before .pre) _ _ _ (omega arith) (c .before .before .before .loop .inv) (pixel-is (c .before))
 
 loop-less : tie.Need-loop-less Inv-loop μ-loop
 loop-less c = search needs
@@ -52,15 +52,15 @@ loop-again c =
     let start = c .before .before .before .before .before .before .before .before .before in
     let at = c .before .before .before .before .before .before .loop in
     subst
-    (λ (l : List ℕ). Pouring (start .args .attribute) (start .args .picture .now) (start .args .ws .now) l (at .i - 1))
+    (λ (l : List ℕ). Pouring (start .args .attribute) (start .args .picture .now) (start .args .ws .now) (start .args .nodes) l (at .i - 1))
     (sym (c .before .before .pour .ensures))
-    (pouring-more _ _ _ (start .pre) _ _ _ (omega arith) (at .inv) (pixel-is (c .before .before .before .before)))
+    (pouring-more _ _ _ _ (start .pre) _ _ _ (omega arith) (at .inv) (pixel-is (c .before .before .before .before)))
 
 same-length : tie.Need-same-length Inv-loop μ-loop
 same-length c = omega (arith, c .before .loop .inv .words)
 
 returns : tie.Need-returns Inv-loop μ-loop
-returns c = pouring-end _ _ _ (c .before .before .before .before .pre) _ _ (c .loop-test .left) (c .before .loop .inv)
+returns c = pouring-end _ _ _ _ (c .before .before .before .before .pre) _ _ (c .loop-test .left) (c .before .loop .inv)
 
 pub descendants-spec : {M : Type 1} → statement M
 descendants-spec =

@@ -1,49 +1,46 @@
 -- `max_tree::passes::write_record` meets its contract. Invariant: the pixels below q are written. Assumes nothing.
 use Prim.Native.Nat.{_-_}
+use native.Mathlib.Omega.{arith}
 use lib.ListN.{length}
 use Rattle.max_tree.proofs.Writing.{Writing, writing-none, write-asked, writing-more, number-room, writing-end}
 use borrow.Author.Needs.{needs}
-use native.Mathlib.Omega.{arith}
 use Rattle.max_tree.proofs.passes.write_record.Statement.{statement}
 use Rattle.max_tree.proofs.passes.write_record.Tie as tie
 
 abbrev Inv-loop : tie.InvT-loop
-Inv-loop picture attribute ws₀ n nodes₀ q₀ ws nodes q = Writing attribute picture ws₀ ws nodes q
+Inv-loop picture ws₀ n tails₀ nodes₀ q₀ ws tails nodes q = Writing picture ws₀ ws tails nodes q
 
 abbrev μ-loop : tie.MeasureT-loop
-μ-loop picture attribute ws₀ n nodes₀ q₀ ws nodes q = length picture - q
+μ-loop picture ws₀ n tails₀ nodes₀ q₀ ws tails nodes q = length picture - q
 
 loop-holds : tie.Need-loop-holds Inv-loop μ-loop
 loop-holds c = writing-none _ _ _ (c .before .before .pre)
 
 write-pixel-requires : tie.Need-write-pixel-requires Inv-loop μ-loop
-write-pixel-requires c κs = write-asked _ _ _ (c .before .before .before .before .before .pre) _ _ _ (c .before .loop-test .taken) (c .before .before .loop .inv)
+write-pixel-requires c κs = write-asked _ _ _ (c .before .before .before .before .before .before .pre) _ _ _ _ (c .before .before .loop-test .taken) (c .before .before .before .loop .inv)
 
 add-nodes : tie.Need-add-nodes Inv-loop μ-loop
 add-nodes c =
-    let start = c .before .before .before .before .before .before .before .before in
     omega (
       arith,
-      number-room _ _ _ (start .pre) _ _ _ (c .before .before .before .before .loop-test .taken) (c .before .before .before .before .before .loop .inv) _ (c .before .before .write-pixel .ensures .0),
-      start .pre .sized .small,
+      number-room _ _ _ (c .before .before .before .before .before .before .before .before .before .pre) _ _ _ _ (c .before .before .before .before .before .loop-test .taken) (c .before .before .before .before .before .before .loop .inv) _ (c .before .before .write-pixel .ensures .0),
+      c .before .before .before .before .before .before .before .before .before .pre .sized .small,
     )
 
 add-q : tie.Need-add-q Inv-loop μ-loop
-add-q c = search needs
+add-q c = omega (arith, c .before .before .before .before .before .loop-test .taken, c .before .before .before .before .before .before .before .before .before .pre .sized .small)
 
 loop-less : tie.Need-loop-less Inv-loop μ-loop
-loop-less c = search needs
+loop-less c = omega (arith, c .before .before .before .before .before .loop-test .taken)
 
 loop-again : tie.Need-loop-again Inv-loop μ-loop
-loop-again c =
-    let called = c .before .before .write-pixel in
-    writing-more _ _ _ (c .before .before .before .before .before .before .before .before .pre) _ _ _ (c .before .before .before .before .loop-test .taken) (c .before .before .before .before .before .loop .inv) _ _ (called .ensures .1) (called .ensures .0)
+loop-again c = writing-more _ _ _ (c .before .before .before .before .before .before .before .before .before .pre) _ _ _ _ (c .before .before .before .before .before .loop-test .taken) (c .before .before .before .before .before .before .loop .inv) _ _ _ (c .before .before .write-pixel .ensures)
 
 same-length : tie.Need-same-length Inv-loop μ-loop
-same-length c = omega (arith, c .before .loop .inv .words)
+same-length c = c .before .loop .inv .words
 
 returns : tie.Need-returns Inv-loop μ-loop
-returns c = writing-end _ _ _ (c .before .before .before .before .pre) _ _ _ (c .loop-test .left) (c .before .loop .inv)
+returns c = writing-end _ _ _ (c .before .before .before .before .pre) _ _ _ _ (c .loop-test .left) (c .before .loop .inv)
 
 pub write-record-spec : {M : Type 1} → statement M
 write-record-spec =

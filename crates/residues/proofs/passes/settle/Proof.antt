@@ -9,10 +9,10 @@ place-requires : tie.Need-place-requires
 place-requires c κs = search needs
 
 cast-words : tie.Need-cast-words
-cast-words c = omega (arith, place-few (c .before .before .before .before .before .before .before .pre) _ (c .before .place .ensures))
+cast-words c = omega (arith, place-few (c .before .before .before .before .before .before .before .pre .0) _ (c .before .place .ensures))
 
 mul-words : tie.Need-mul-words
-mul-words c = omega (arith, place-few (c .before .before .before .before .before .before .before .pre) _ (c .before .place .ensures))
+mul-words c = omega (arith, place-few (c .before .before .before .before .before .before .before .pre .0) _ (c .before .place .ensures))
 
 mul-words-2 : tie.Need-mul-words-2
 mul-words-2 c = search needs
@@ -69,7 +69,7 @@ add-run : tie.Need-add-run
 add-run c =
     omega (
       arith,
-      run-le (c .before .before .before .before .before .before .before .before .before .before .before .pre) _ (c .before .before .before .before .before .place .ensures) (omega arith) (c .shared .ensures),
+      run-le (c .before .before .before .before .before .before .before .before .before .before .before .pre .0) _ (c .before .before .before .before .before .place .ensures) (omega arith) (c .shared .ensures),
       c .before .before .before .shared-slice-known3 .given (c .before .before .before .before .before .before .before .before .before .before .before .args .r),
     )
 
@@ -83,7 +83,7 @@ add-words : tie.Need-add-words
 add-words c =
     omega (
       arith,
-      run-le (c .before .before .before .before .before .before .before .before .before .before .before .pre) _ (c .before .before .before .before .before .place .ensures) (omega arith) (c .shared .ensures),
+      run-le (c .before .before .before .before .before .before .before .before .before .before .before .pre .0) _ (c .before .before .before .before .before .place .ensures) (omega arith) (c .shared .ensures),
       c .before .before .before .shared-slice-known3 .given (c .before .before .before .before .before .before .before .before .before .before .before .args .r),
     )
 
@@ -103,7 +103,7 @@ cast-residues : tie.Need-cast-residues
 cast-residues c =
     omega (
       arith,
-      run-le (c .before .before .before .before .before .before .before .before .before .before .before .before .before .pre) _ (c .before .before .before .before .before .before .before .place .ensures) (omega arith) (c .before .before .shared .ensures),
+      run-le (c .before .before .before .before .before .before .before .before .before .before .before .before .before .pre .0) _ (c .before .before .before .before .before .before .before .place .ensures) (omega arith) (c .before .before .shared .ensures),
       c .before .before .before .before .before .shared-slice-known3 .given (c .before .before .before .before .before .before .before .before .before .before .before .before .before .args .r),
     )
 

@@ -1,4 +1,4 @@
--- `residues::passes::settle_nodes` meets its contract: at the loop's head the nodes of the first i pixels are settled.
+-- `residues::passes::settle_nodes` meets its contract: at the loop's head the first i nodes of the list are settled.
 use Prim.Native.Nat.{_*_, _-_, _≤_}
 use native.Mathlib.Omega.{arith}
 use lib.ListN.{take}
@@ -8,16 +8,18 @@ use Rattle.residues.proofs.passes.settle_nodes.Statement.{statement}
 use Rattle.residues.proofs.passes.settle_nodes.Tie as tie
 
 abbrev Inv-loop : tie.InvT-loop
-Inv-loop picture steps n ws₀ residues₀ indices₀ i₀ ws residues indices i = (i ≤ n) × Progress n picture steps (take (3 * n) ws₀) ws residues indices i
+Inv-loop picture steps table n nodes ws₀ residues₀ indices₀ i₀ ws residues indices i = (i ≤ nodes) × Progress n picture steps (take (3 * n) ws₀) ws residues indices i
 
 abbrev μ-loop : tie.MeasureT-loop
-μ-loop picture steps n ws₀ residues₀ indices₀ i₀ ws residues indices i = n - i
+μ-loop picture steps table n nodes ws₀ residues₀ indices₀ i₀ ws residues indices i = nodes - i
 
 loop-holds : tie.Need-loop-holds Inv-loop μ-loop
-loop-holds c = (omega arith, c .before .before .before .before .before .pre .1)
+loop-holds c = (omega arith, c .before .before .before .before .before .pre .0 .1)
 
 visit-requires : tie.Need-visit-requires Inv-loop μ-loop
-visit-requires c κs = visitable (c .before .before .before .before .loop .inv .1) (c .before .before .before .loop-test .taken) (c .before .before .before .before .before .before .before .before .before .before .pre .0)
+visit-requires c κs =
+    let asked = c .before .before .before .before .before .before .before .before .before .before .pre in
+    (visitable (c .before .before .before .before .loop .inv .1) (c .before .before .before .loop-test .taken) (asked .0 .0), asked .1)
 
 add-i : tie.Need-add-i Inv-loop μ-loop
 add-i c = omega arith
@@ -29,13 +31,13 @@ loop-again : tie.Need-loop-again Inv-loop μ-loop
 loop-again c = (omega arith, visited (c .before .before .before .before .before .before .before .before .before .before .before .loop .inv .1) (c .before .before .before .before .before .before .visit .ensures))
 
 same-length : tie.Need-same-length Inv-loop μ-loop
-same-length c = omega (arith, c .before .loop .inv .1 .ws-size, c .before .before .before .before .before .before .before .pre .1 .ws-size)
+same-length c = omega (arith, c .before .loop .inv .1 .ws-size, c .before .before .before .before .before .before .before .pre .0 .1 .ws-size)
 
 same-length-2 : tie.Need-same-length-2 Inv-loop μ-loop
-same-length-2 c = omega (arith, c .before .loop .inv .1 .residues-size, c .before .before .before .before .before .before .before .pre .1 .residues-size)
+same-length-2 c = omega (arith, c .before .loop .inv .1 .residues-size, c .before .before .before .before .before .before .before .pre .0 .1 .residues-size)
 
 same-length-3 : tie.Need-same-length-3 Inv-loop μ-loop
-same-length-3 c = omega (arith, c .before .loop .inv .1 .indices-size, c .before .before .before .before .before .before .before .pre .1 .indices-size)
+same-length-3 c = omega (arith, c .before .loop .inv .1 .indices-size, c .before .before .before .before .before .before .before .pre .0 .1 .indices-size)
 
 returns : tie.Need-returns Inv-loop μ-loop
 returns c = visited-all (c .before .loop .inv .1) _ (omega arith)

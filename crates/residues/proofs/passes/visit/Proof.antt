@@ -1,7 +1,7 @@
 -- `residues::passes::visit` meets its contract.
 use borrow.Author.Needs.{needs}
 use native.Mathlib.Omega.{arith}
-use Rattle.residues.proofs.Visiting.{visit-inside, visit-parent, visit-ready, visit-skips, visit-settles}
+use Rattle.residues.proofs.Visiting.{visit-inside, visit-parent, visit-ready, visit-settles}
 use Rattle.residues.proofs.passes.visit.Statement.{statement}
 use Rattle.residues.proofs.passes.visit.Tie as tie
 
@@ -18,28 +18,25 @@ slice-read-r : tie.Need-slice-read-r
 slice-read-r c = search needs
 
 cast-r : tie.Need-cast-r
-cast-r c = omega (arith, visit-inside (c .before .before .before .before .before .before .pre))
+cast-r c = omega (arith, visit-inside (c .before .before .before .before .before .before .pre .0))
 
 add-a : tie.Need-add-a
-add-a c = omega (arith, visit-inside (c .before .before .before .before .before .before .pre))
+add-a c = omega (arith, visit-inside (c .before .before .before .before .before .before .pre .0))
 
 mul-a : tie.Need-mul-a
-mul-a c = omega (arith, visit-inside (c .before .before .before .before .before .before .pre))
+mul-a c = omega (arith, visit-inside (c .before .before .before .before .before .before .pre .0))
 
 slice-read-a : tie.Need-slice-read-a
-slice-read-a c = omega (arith, visit-inside (c .before .before .before .before .before .before .before .pre))
-
-returns : tie.Need-returns
-returns c = visit-skips (c .before .before .before .before .before .before .before .before .pre) (c .if1 .taken)
+slice-read-a c = omega (arith, visit-inside (c .before .before .before .before .before .before .before .pre .0))
 
 mul-parent : tie.Need-mul-parent
-mul-parent c = omega (arith, visit-inside (c .before .before .before .before .before .before .before .before .pre))
+mul-parent c = omega (arith, visit-inside (c .before .before .before .before .before .before .before .pre .0))
 
 slice-read-parent : tie.Need-slice-read-parent
-slice-read-parent c = omega (arith, visit-inside (c .before .before .before .before .before .before .before .before .before .pre))
+slice-read-parent c = omega (arith, visit-inside (c .before .before .before .before .before .before .before .before .pre .0))
 
 cast-parent : tie.Need-cast-parent
-cast-parent c = omega (arith, visit-parent (c .before .before .before .before .before .before .before .before .before .pre))
+cast-parent c = omega (arith, visit-parent (c .before .before .before .before .before .before .before .before .pre .0))
 
 mul-start : tie.Need-mul-start
 mul-start c = search needs
@@ -57,7 +54,9 @@ part-settle-end : tie.Need-part-settle-end
 part-settle-end c = search needs
 
 settle-requires : tie.Need-settle-requires
-settle-requires c κs = visit-ready (c .before .before .before .before .before .before .before .before .before .before .before .before .pre) (c .before .before .before .before .if1 .left)
+settle-requires c κs =
+    let asked = c .before .before .before .before .before .before .before .before .before .before .before .pre in
+    (visit-ready (asked .0), asked .1)
 
 same-length : tie.Need-same-length
 same-length c = search needs
@@ -68,13 +67,12 @@ same-length-2 c = search needs
 same-length-3 : tie.Need-same-length-3
 same-length-3 c = search needs
 
-returns-2 : tie.Need-returns-2
-returns-2 c =
+returns : tie.Need-returns
+returns c =
     visit-settles
-    (c .before .before .before .before .before .before .before .before .before .before .before .before .before .before .before .before .before .before .before .pre)
-    (c .before .before .before .before .before .before .before .before .before .before .before .if1 .left)
-    (c .before .before .before .before .before .before .before .before .before .before .before .before .before .before .before .before .before .before .shared-slice-known .given _ .fits)
-    (c .before .before .before .before .before .before .settle .kept .1 .1 .1 .1 .1 .0)
+    (c .before .before .before .before .before .before .before .before .before .before .before .before .before .before .before .before .before .before .pre .0)
+    (c .before .before .before .before .before .before .before .before .before .before .before .before .before .before .before .before .before .shared-slice-known .given _ .fits)
+    (c .before .before .before .before .before .before .settle .kept .1 .1 .1 .1 .1 .1 .0)
     (c .before .before .before .before .before .before .settle .ensures)
 
 pub visit-spec : {M : Type 1} → statement M
@@ -89,7 +87,6 @@ visit-spec =
     add-a
     mul-a
     slice-read-a
-    returns
     mul-parent
     slice-read-parent
     cast-parent
@@ -102,4 +99,4 @@ visit-spec =
     same-length
     same-length-2
     same-length-3
-    returns-2)
+    returns)

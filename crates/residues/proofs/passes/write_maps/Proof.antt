@@ -4,11 +4,16 @@ use Rattle.residues.proofs.Maps.{progress-begins, progress-spreads, pas
 use Rattle.residues.proofs.passes.write_maps.Statement.{statement}
 use Rattle.residues.proofs.passes.write_maps.Tie as tie
 
+small-places-requires : tie.Need-small-places-requires
+small-places-requires c κs = search needs
+
 settle-nodes-requires : tie.Need-settle-nodes-requires
-settle-nodes-requires c κs = (c .before .before .before .before .before .before .before .before .pre .given, progress-begins (c .before .before .before .before .before .before .before .before .pre))
+settle-nodes-requires c κs =
+    let ready = c .before .before .before .before .before .before .before .before .before .before .pre in
+    ((ready .given, progress-begins ready), c .before .before .before .before .small-places .ensures)
 
 spread-requires : tie.Need-spread-requires
-spread-requires c κs = progress-spreads (c .before .before .before .before .before .before .before .before .before .before .before .before .before .before .before .before .before .before .pre .given) (c .before .before .before .before .before .before .before .before .before .settle-nodes .ensures)
+spread-requires c κs = progress-spreads (c .before .before .before .before .before .before .before .before .before .before .before .before .before .before .before .before .before .before .before .before .pre .given) (c .before .before .before .before .before .before .before .before .before .settle-nodes .ensures)
 
 same-length : tie.Need-same-length
 same-length c = search needs
@@ -22,8 +27,8 @@ same-length-3 c = search needs
 returns : tie.Need-returns
 returns c =
     passes-written
-    (c .before .before .before .before .before .before .before .before .before .before .before .before .before .before .before .before .before .before .before .before .before .before .before .pre .given)
-    (λ q. c .before .before .before .before .before .before .before .before .before .before .before .before .before .before .before .before .before .before .before .before .before .before .shared-slice-known .given q .fits)
+    (c .before .before .before .before .before .before .before .before .before .before .before .before .before .before .before .before .before .before .before .before .before .before .before .before .before .pre .given)
+    (λ q. c .before .before .before .before .before .before .before .before .before .before .before .before .before .before .before .before .before .before .before .before .before .before .before .before .shared-slice-known .given q .fits)
     (c .before .before .before .before .before .before .before .before .before .before .before .before .before .before .settle-nodes .ensures)
     (c .before .before .before .before .spread .ensures)
 
@@ -31,6 +36,7 @@ pub write-maps-spec : {M : Type 1} → statement M
 write-maps-spec =
     tie.close
     (tie.spec
+    small-places-requires
     settle-nodes-requires
     spread-requires
     same-length

@@ -2,8 +2,8 @@
 use mathlib.Core.Path.{_∙_, ap}
 use denote.Ref.{now}
 use borrow.Author.Needs.{needs}
+use Rattle.causes.proofs.Lists.{to-end}
 use Rattle.steps.specs.Fields.{attribute-of}
-use Rattle.steps.proofs.Scanning.{to-end}
 use Rattle.steps.proofs.Shaping.{attribute-line-long}
 use Rattle.steps.proofs.lines.attribute.Statement.{statement}
 use Rattle.steps.proofs.lines.attribute.Tie as tie

@@ -3,10 +3,10 @@ use mathlib.Core.Path.{_≡_}
 use native.Mathlib.Omega.{arith}
 use lib.ListN.{length, length-set}
 use borrow.Author.Needs.{needs}
-use Rattle.steps_cases.proofs.long.put_first.Statement.{statement}
-use Rattle.steps_cases.proofs.long.put_first.Tie as tie
+use Rattle.steps_cases.proofs.put_first.Statement.{statement}
+use Rattle.steps_cases.proofs.put_first.Tie as tie
 
--- `steps_cases::long::put_first` is safe and ends. Assumes nothing.
+-- `steps_cases::put_first` is safe and ends. Assumes nothing.
 
 abbrev Inv-loop : tie.InvT-loop
 Inv-loop file₀ first i₀ file i = (i ≤ 15) × (length file ≡ length file₀)

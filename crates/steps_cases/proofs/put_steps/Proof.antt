@@ -3,10 +3,10 @@ use mathlib.Core.Path.{_≡_, _∙_}
 use native.Mathlib.Omega.{arith}
 use lib.ListN.{length}
 use borrow.Author.Needs.{needs}
-use Rattle.steps_cases.proofs.long.put_steps.Statement.{statement}
-use Rattle.steps_cases.proofs.long.put_steps.Tie as tie
+use Rattle.steps_cases.proofs.put_steps.Statement.{statement}
+use Rattle.steps_cases.proofs.put_steps.Tie as tie
 
--- `steps_cases::long::put_steps` is safe and ends. Assumes nothing.
+-- `steps_cases::put_steps` is safe and ends. Assumes nothing.
 
 abbrev Inv-loop : tie.InvT-loop
 Inv-loop file₀ i₀ file i = (i ≤ 300) × (length file ≡ length file₀)

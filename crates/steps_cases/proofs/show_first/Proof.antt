@@ -1,9 +1,9 @@
--- `steps_cases::long::show_first` is safe and ends. Assumes nothing.
+-- `steps_cases::show_first` is safe and ends. Assumes nothing.
 use mathlib.Core.Path.{sym}
 use lib.Seq.{length-take-le}
 use borrow.Author.Needs.{needs}
-use Rattle.steps_cases.proofs.long.show_first.Statement.{statement}
-use Rattle.steps_cases.proofs.long.show_first.Tie as tie
+use Rattle.steps_cases.proofs.show_first.Statement.{statement}
+use Rattle.steps_cases.proofs.show_first.Tie as tie
 
 slice-aggregate-show : tie.Need-slice-aggregate-show
 slice-aggregate-show c = sym (length-take-le _ _ (c .before .if1 .taken))

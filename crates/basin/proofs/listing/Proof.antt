@@ -1,15 +1,15 @@
--- `basin::lines::listing` is safe and ends. Assumes nothing.
+-- `basin::listing` is safe and ends. Assumes nothing.
 use Prim.Native.Nat.{_-_, _≤_}
 use mathlib.Core.Path.{_≡_}
 use lib.ListN.{length}
 use borrow.Author.Needs.{needs}
 use native.Mathlib.Omega.{arith}
-use Rattle.basin.proofs.lines.listing.Statement.{statement}
-use Rattle.basin.proofs.lines.listing.Tie as tie
-use Rattle.basin.proofs.lines.listing.Reads as reads
-use Rattle.basin.proofs.lines.listing.Lts as lts
-use Rattle.basin.proofs.lines.pixel.Reads as pixel-reads
-use Rattle.basin.proofs.lines.text.Reads as text-reads
+use Rattle.basin.proofs.listing.Statement.{statement}
+use Rattle.basin.proofs.listing.Tie as tie
+use Rattle.basin.proofs.listing.Reads as reads
+use Rattle.basin.proofs.listing.Lts as lts
+use Rattle.basin.proofs.pixel.Reads as pixel-reads
+use Rattle.basin.proofs.text.Reads as text-reads
 
 abbrev Inv-loop : tie.InvT-loop
 Inv-loop picture width residue index w p₀ p = (p ≤ length picture) × (w ≡ width)

@@ -1,8 +1,8 @@
--- `steps_cases::long::put_step` meets its contract. Assumes nothing.
+-- `steps_cases::put_step` meets its contract. Assumes nothing.
 use lib.ListN.{length-set}
 use borrow.Author.Needs.{needs}
-use Rattle.steps_cases.proofs.long.put_step.Statement.{statement}
-use Rattle.steps_cases.proofs.long.put_step.Tie as tie
+use Rattle.steps_cases.proofs.put_step.Statement.{statement}
+use Rattle.steps_cases.proofs.put_step.Tie as tie
 
 element-write-file : tie.Need-element-write-file
 element-write-file c = search needs

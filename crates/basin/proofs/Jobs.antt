@@ -1,0 +1,111 @@
+-- The causes of the program, one way out after the other, and what an accepted job gives. Assumes nothing.
+use Prim.Native.Nat.{ℕ, _*_, _≤_, _<_}
+use mathlib.Core.Bool.{Bool, true, false, cond}
+use mathlib.Core.List.{List}
+use mathlib.Core.Path.{_≡_, refl, sym, ap, _∙_}
+use native.Mathlib.Omega.{arith}
+use lib.Dec.{ltb}
+use lib.ListN.{length}
+use borrow.Author.Tests.{ltb-false, lt-ltb, le-ltb}
+use Rattle.causes.specs.declared.Cause.{Cause}
+use Rattle.causes.specs.declared.Cause.the-variants.{TooLarge, NotRead}
+use Rattle.pgm.specs.Read.{read-answer, raster-of}
+use Rattle.pgm.specs.declared.Found.{Found}
+use Rattle.pgm.specs.declared.Found.the-variants.{Picture, Refused as Not-found}
+use Rattle.pgm.proofs.Shape.{accepted-page}
+use Rattle.steps.specs.Answer.{parse-answer, steps-after}
+use Rattle.steps.specs.declared.Parsed.{Parsed}
+use Rattle.steps.specs.declared.Parsed.the-variants.{Steps, Refused as Not-parsed}
+use Rattle.basin.specs.declared.files.Loaded.{Loaded}
+use Rattle.basin.specs.declared.files.Loaded.the-variants.{Bytes, Failed}
+use Rattle.basin.specs.declared.judging.Lengths.{Lengths}
+use Rattle.basin.specs.declared.judging.Lengths.the-variants.{Both, Refused as Not-both}
+use Rattle.basin.specs.declared.judging.Job.{Job}
+use Rattle.basin.specs.declared.judging.Job.the-variants.{Size, Refused}
+use Rattle.basin.specs.Judging.{both-read, sized-by, judged-with, job-of, job-steps}
+
+-- two files
+pub first-failed : (a b : Loaded) → a ≡ Failed → Not-both NotRead ≡ both-read a b
+first-failed a b e = rw e refl
+
+module _ (a b : Loaded) (p : ℕ) (is : a ≡ Bytes p) where
+  pub second-failed : b ≡ Failed → Not-both NotRead ≡ both-read a b
+  second-failed e = rw (is, e) refl
+
+  module _ (s : ℕ) (list-is : b ≡ Bytes s) where
+    pub first-long : 4096 < p → Not-both TooLarge ≡ both-read a b
+    first-long l = rw (is, list-is, lt-ltb 4096 p l) refl
+
+    pub second-long : p ≤ 4096 → 4096 < s → Not-both TooLarge ≡ both-read a b
+    second-long k l = rw (is, list-is, le-ltb 4096 p k, lt-ltb 4096 s l) refl
+
+    pub both-fit : p ≤ 4096 → s ≤ 4096 → Both p s ≡ both-read a b
+    both-fit k l = rw (is, list-is, le-ltb 4096 p k, le-ltb 4096 s l) refl
+
+-- the steps file
+pub by-list : (w h attribute count : ℕ) (parsed : Parsed) → parsed ≡ Steps attribute count → Size w h attribute count ≡ sized-by w h parsed
+by-list w h attribute count parsed e = rw e refl
+
+pub by-cause : (w h : ℕ) (cause : Cause) (parsed : Parsed) → parsed ≡ Not-parsed cause → Refused cause ≡ sized-by w h parsed
+by-cause w h cause parsed e = rw e refl
+
+-- what is answered, and what the thresholds then are
+abbrev pub Judged : List ℕ → List ℕ → List ℕ → Job → List ℕ → Type 0
+Judged file list lent answer after = (answer ≡ job-of file list) × (after ≡ job-steps file list lent)
+
+pub unread : (file list lent : List ℕ) (cause : Cause) → read-answer file ≡ Not-found cause → Judged file list lent (Refused cause) lent
+unfolding job-of job-steps
+unread file list lent cause e = rw e (refl, refl)
+
+module _ (file list lent : List ℕ) (w h maximum start : ℕ) (is : read-answer file ≡ Picture w h maximum start) where
+  pixels : length (raster-of file) ≡ w * h
+  pixels = accepted-page file w h maximum start is .raster-length
+
+  pub too-large : 2048 < length (raster-of file) → Judged file list lent (Refused TooLarge) lent
+  unfolding job-of job-steps
+  too-large l = rw (is, lt-ltb 2048 (w * h) (omega (arith, pixels))) (refl, refl)
+
+  pub small-enough : length (raster-of file) ≤ 2048 → (answer : Job) (after : List ℕ) → answer ≡ sized-by w h (parse-answer list) → after ≡ steps-after list lent → Judged file list lent answer after
+  unfolding job-of job-steps
+  small-enough l answer after e f = rw (is, le-ltb 2048 (w * h) (omega (arith, pixels))) (e, f)
+
+-- what is to be sized: a picture of at most 2,048 pixels, by a steps file that is accepted
+pub record Sizing (file list lent : List ℕ) (attribute count : ℕ) : Type 0 where
+  pub few : length (raster-of file) ≤ 2048
+  pub parsed : parse-answer list ≡ Steps attribute count
+  pub stored : job-steps file list lent ≡ steps-after list lent
+
+steps-of : (w h width height attribute count : ℕ) (parsed : Parsed) → sized-by w h parsed ≡ Size width height attribute count → parsed ≡ Steps attribute count
+steps-of w h width height attribute count (Steps a c) e = let f : a ≡ attribute = cc in let g : c ≡ count = cc in rw (f, g) refl
+steps-of w h width height attribute count (Not-parsed cause) e = let z : _≡_ {A = ℕ} 0 1 = cc in absurd (omega arith)
+
+module _ (file list lent : List ℕ) (width height attribute count : ℕ) where
+  within : (found : Found) → read-answer file ≡ found → judged-with found (parse-answer list) ≡ Size width height attribute count → Sizing file list lent attribute count
+  unfolding job-steps
+  within (Not-found cause) is e = let z : _≡_ {A = ℕ} 0 1 = cc in absurd (omega arith)
+  within (Picture w h maximum start) is e = go (ltb 2048 (w * h)) refl
+    where
+      go : (large : Bool) → ltb 2048 (w * h) ≡ large → Sizing file list lent attribute count
+      go true l = let f : Refused TooLarge ≡ Size width height attribute count = sym (rw l refl) ∙ e in let z : _≡_ {A = ℕ} 0 1 = cc in absurd (omega arith)
+      go false l =
+          let f : sized-by w h (parse-answer list) ≡ Size width height attribute count = sym (rw l refl) ∙ e in
+          record {
+            few = omega (arith, accepted-page file w h maximum start is .raster-length, ltb-false 2048 (w * h) l);
+            parsed = steps-of w h width height attribute count (parse-answer list) f;
+            stored = rw (is, l) refl;
+          }
+
+  pub sizing : job-of file list ≡ Size width height attribute count → Sizing file list lent attribute count
+  unfolding job-of
+  sizing e = within (read-answer file) refl e
+
+-- the lengths that are handed on are those of files that were read
+pub both-loaded : (a b : Loaded) (p s : ℕ) → both-read a b ≡ Both p s → (a ≡ Bytes p) × (b ≡ Bytes s)
+both-loaded Failed b p s e = let z : _≡_ {A = ℕ} 0 1 = cc in absurd (omega arith)
+both-loaded (Bytes q) Failed p s e = let z : _≡_ {A = ℕ} 0 1 = cc in absurd (omega arith)
+both-loaded (Bytes q) (Bytes r) p s e = go (ltb 4096 q) (ltb 4096 r) e
+  where
+    go : (t u : Bool) → cond t (Not-both TooLarge) (cond u (Not-both TooLarge) (Both q r)) ≡ Both p s → (Bytes q ≡ Bytes p) × (Bytes r ≡ Bytes s)
+    go true u f = let z : _≡_ {A = ℕ} 0 1 = cc in absurd (omega arith)
+    go false true f = let z : _≡_ {A = ℕ} 0 1 = cc in absurd (omega arith)
+    go false false f = let g : q ≡ p = cc in let h : r ≡ s = cc in (ap Bytes g, ap Bytes h)

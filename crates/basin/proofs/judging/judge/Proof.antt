@@ -1,0 +1,44 @@
+-- `basin::judging::judge` meets its contract. Assumes nothing.
+use mathlib.Core.Path.{sym, _∙_}
+use Rattle.basin.proofs.Jobs.{unread, too-large, small-enough}
+use borrow.Author.Needs.{needs}
+use Rattle.basin.proofs.judging.judge.Statement.{statement}
+use Rattle.basin.proofs.judging.judge.Tie as tie
+
+read-requires : tie.Need-read-requires
+read-requires c κs = search needs
+
+enum-known-width : tie.Need-enum-known-width
+enum-known-width c = search needs
+
+raster-requires : tie.Need-raster-requires
+raster-requires c κs = search needs
+
+returns : tie.Need-returns
+returns c = too-large _ _ _ _ _ _ _ (sym (c .before .before .before .before .before .read .ensures .0) ∙ c .before .before .before .width .given .1) (rw (sym (c .before .raster .ensures)) (c .if1 .taken))
+
+by-steps-requires : tie.Need-by-steps-requires
+by-steps-requires c κs = search needs
+
+returns-2 : tie.Need-returns-2
+returns-2 c =
+    small-enough _ _ _ _ _ _ _ (sym (c .before .before .before .before .before .before .before .read .ensures .0) ∙ c .before .before .before .before .before .width .given .1) (rw (sym (c .before .before .before .raster .ensures)) (c .before .before .if1 .left)) _ _ (c .by-steps .ensures .0) (c .by-steps .ensures .1)
+
+enum-known-cause : tie.Need-enum-known-cause
+enum-known-cause c = search needs
+
+returns-3 : tie.Need-returns-3
+returns-3 c = unread _ _ _ _ (sym (c .before .before .before .read .ensures .0) ∙ c .before .cause .given .1)
+
+pub judge-spec : {M : Type 1} → statement M
+judge-spec =
+    tie.close
+    (tie.spec
+    read-requires
+    enum-known-width
+    raster-requires
+    returns
+    by-steps-requires
+    returns-2
+    enum-known-cause
+    returns-3)

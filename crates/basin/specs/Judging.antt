@@ -1,0 +1,45 @@
+-- What the program does with its two files, in its order: "Program: 15, 14 (bytes), the reader's, 14 (n), 13, 3, 4."
+use Prim.Native.Nat.{ℕ, _*_}
+use mathlib.Core.Bool.{cond}
+use mathlib.Core.List.{List}
+use lib.Dec.{ltb}
+use Rattle.causes.specs.declared.Cause.the-variants.{TooLarge, NotRead}
+use Rattle.pgm.specs.Read.{read-answer}
+use Rattle.pgm.specs.declared.Found.{Found}
+use Rattle.pgm.specs.declared.Found.the-variants.{Picture, Refused as Not-found}
+use Rattle.steps.specs.Answer.{parse-answer, steps-after}
+use Rattle.steps.specs.declared.Parsed.{Parsed}
+use Rattle.steps.specs.declared.Parsed.the-variants.{Steps, Refused as Not-parsed}
+use Rattle.basin.specs.declared.files.Loaded.{Loaded}
+use Rattle.basin.specs.declared.files.Loaded.the-variants.{Bytes, Failed}
+use Rattle.basin.specs.declared.judging.Lengths.{Lengths}
+use Rattle.basin.specs.declared.judging.Lengths.the-variants.{Both, Refused as Not-both}
+use Rattle.basin.specs.declared.judging.Job.{Job}
+use Rattle.basin.specs.declared.judging.Job.the-variants.{Size, Refused}
+
+-- "a file not opened or read", then "a file above 4,096 bytes"
+abbrev pub both-read : Loaded → Loaded → Lengths
+both-read Failed list = Not-both NotRead
+both-read (Bytes p) Failed = Not-both NotRead
+both-read (Bytes p) (Bytes s) = cond (ltb 4096 p) (Not-both TooLarge) (cond (ltb 4096 s) (Not-both TooLarge) (Both p s))
+
+-- a picture of width w and height h, by the answer on the steps file
+abbrev pub sized-by : ℕ → ℕ → Parsed → Job
+sized-by w h (Steps attribute count) = Size w h attribute count
+sized-by w h (Not-parsed cause) = Refused cause
+
+-- the reader's causes, then "n above 2,048", then those of the steps file
+abbrev pub judged-with : Found → Parsed → Job
+judged-with (Picture w h maximum start) parsed = cond (ltb 2048 (w * h)) (Refused TooLarge) (sized-by w h parsed)
+judged-with (Not-found cause) parsed = Refused cause
+
+unfoldable pub job-of : List ℕ → List ℕ → Job
+job-of file list = judged-with (read-answer file) (parse-answer list)
+
+-- the thresholds: those of the steps file, where it comes to be judged
+abbrev pub stored-with : Found → List ℕ → List ℕ → List ℕ
+stored-with (Picture w h maximum start) list lent = cond (ltb 2048 (w * h)) lent (steps-after list lent)
+stored-with (Not-found cause) list lent = lent
+
+unfoldable pub job-steps : List ℕ → List ℕ → List ℕ → List ℕ
+job-steps file list lent = stored-with (read-answer file) list lent
