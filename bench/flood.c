@@ -6,6 +6,7 @@ typedef struct {
     uint32_t n, width;
     uint32_t *parents, *order;
     uint32_t heads[256], tails[256], roots[256];
+    uint64_t open[4]; /* the open levels, a bit each */
 } flood_t;
 
 /* Level l owns the run of part 3 from the number of darker pixels on. */
@@ -25,6 +26,7 @@ static void level_runs(flood_t *f) {
 static inline void push(flood_t *f, uint32_t q, int l) {
     if (f->roots[l] == f->n)
         f->roots[l] = q;
+    f->open[l / 64] |= (uint64_t)1 << l % 64;
     f->parents[q] = f->roots[l];
     f->order[f->tails[l]++] = q;
 }
@@ -53,16 +55,24 @@ static inline int visit_around(flood_t *f, int level) {
     return l;
 }
 
+/* The brightest open level below, 256 if there is none. */
+static inline int open_below(const flood_t *f, int level) {
+    int i = level / 64;
+    uint64_t word = f->open[i] % ((uint64_t)1 << level % 64);
+    while (word == 0 && i > 0)
+        word = f->open[--i];
+    return word == 0 ? 256 : 64 * i + 63 - __builtin_clzll(word);
+}
+
 /* Closes the node of the level: its root's parent is the root of the next darker open level, which is the answer; 256 at the end. */
 static int close_node(flood_t *f, int level) {
+    int below = open_below(f, level);
     uint32_t root = f->roots[level];
     f->roots[level] = f->n;
-    for (int l = level - 1; l >= 0; l--)
-        if (f->roots[l] != f->n) {
-            f->parents[root] = f->roots[l];
-            return l;
-        }
-    return 256;
+    f->open[level / 64] -= (uint64_t)1 << level % 64;
+    if (below != 256)
+        f->parents[root] = f->roots[below];
+    return below;
 }
 
 void flood(const picture_t *picture, uint32_t *ws) {

@@ -5,7 +5,7 @@ use crate::random::Random;
 
 type Maker = fn(&mut Random, usize, usize) -> Vec<u8>;
 
-pub const KINDS: [(&str, Maker); 13] = [
+pub const KINDS: [(&str, Maker); 14] = [
     ("few greys", few_greys),
     ("noise", noise),
     ("floc", floc),
@@ -19,6 +19,7 @@ pub const KINDS: [(&str, Maker); 13] = [
     ("comb", comb),
     ("bridges", bridges),
     ("two ends", two_ends),
+    ("about 64", about_64),
 ];
 
 fn by_place(width: usize, height: usize, mut grey: impl FnMut(usize, usize) -> u8) -> Vec<u8> {
@@ -215,6 +216,12 @@ fn bridges(random: &mut Random, width: usize, height: usize) -> Vec<u8> {
 /// Greys 0, 1, 254 and 255 only.
 fn two_ends(random: &mut Random, width: usize, height: usize) -> Vec<u8> {
     by_place(width, height, |_, _| random.pick(&[0, 1, 254, 255]))
+}
+
+/// Greys about the multiples of 64 only.
+fn about_64(random: &mut Random, width: usize, height: usize) -> Vec<u8> {
+    let palette = [0, 1, 62, 63, 64, 65, 127, 128, 191, 192, 193, 255];
+    by_place(width, height, |_, _| random.pick(&palette))
 }
 
 fn small_size(random: &mut Random) -> (usize, usize) {
