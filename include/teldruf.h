@@ -59,8 +59,8 @@ static inline uint32_t teldruf_cause(uint64_t answer) {
 
 /*
  * Reads a binary PGM file. Lent: the file's bytes, any number of them, which are only read; and four words for the head. Accepted:
- * the answer is 0 and head holds width, height, maximum and where the raster starts in the file; the raster is the n bytes from
- * there. Refused, in this order: 8, 9, 10, 1, 11, 12.
+ * the answer is 0 and head holds width, height, maximum and where the raster starts in the file, modulo 2^32; the raster is the
+ * last n bytes of the file. Refused, in this order: 8, 9, 10, 1, 11, 12.
  */
 uint64_t teldruf_read_pgm(const uint8_t *file, size_t file_len, uint32_t head[4]);
 
