@@ -39,7 +39,6 @@ module _ {n : ℕ} {g : ℕ → ℕ} {s : State} (B : Untouched n g s) where
         high = λ k h. omega (arith, heads k h, tails k h);
         placed = λ k i h lo hi. absurd (omega (arith, tails k h));
         place = λ q h m. absurd (omega (arith, unmet-all q h));
-        once = λ k i j h li hi lj hj e. absurd (omega (arith, tails k h));
         open-root = λ k h o. absurd (omega (arith, closed-all k h));
         idle = λ k h o. heads k h ∙ sym (tails k h);
         waiting = λ k i h lo hi. absurd (omega (arith, heads k h, tails k h));

@@ -261,10 +261,6 @@ module _ {n : ℕ} {adj : Adjacency} {g : ℕ → ℕ} {s s' : State} (S : Sound
           high = λ k hk. rw (C .head k, C .tail k) (S .high k hk);
           placed = new-placed;
           place = new-place;
-          once = λ k i j hk li hi lj hj e.
-              let a : i < s .tail k = rw (C .tail k) at hi in
-              let b : j < s .tail k = rw (C .tail k) at hj in
-              S .once k i j hk li a lj b (sym (keep-ord k i hk a) ∙ e ∙ keep-ord k j hk b);
           open-root = new-open;
           idle = λ k hk o.
               rw

@@ -115,7 +115,6 @@ module _ {n : ℕ} {adj : Adjacency} {g : ℕ → ℕ} {s : State} (S : Sound n 
             place = λ x hx m.
                 let old = S .place x hx m in
                 record { at = old .at; low = old .low; high = old .high; holds = old .holds };
-            once = S .once;
             open-root = λ k hk o.
                 let old = S .open-root k hk o in
                 record { grey = old .grey; own = old .own };

@@ -214,27 +214,6 @@ module _ {n : ℕ} {adj : Adjacency} {g : ℕ → ℕ} {s s' : State} (S : Sound
               holds = keep-ord (g x) (old .at) bx (old .low) (old .high) ∙ old .holds;
             }
 
-    new-once :
-        (k i j : ℕ) → k < 256 → darker n g k ≤ i → i < s' .tail k → darker n g k ≤ j → j < s' .tail k → s' .ord i ≡ s' .ord j
-        → i ≡ j
-    new-once k i j hk li hi lj hj e =
-        by-cases
-        (was-in k i hk hi)
-        (λ a. by-cases (was-in k j hk hj) (λ b. a .1 ∙ sym (b .1)) (λ b. absurd (apart i j (a .1) lj b e)))
-        (λ a.
-        by-cases
-        (was-in k j hk hj)
-        (λ b. absurd (apart j i (b .1) li a (sym e)))
-        (λ b. S .once k i j hk li a lj b (sym (keep-ord k i hk li a) ∙ e ∙ keep-ord k j hk lj b)))
-      where
-        apart :
-            (a b : ℕ) → a ≡ s .tail l → darker n g k ≤ b → b < s .tail k → s' .ord a ≡ s' .ord b → ⊥
-        apart a b ea lb hb eq =
-            not-q
-            (s .ord b)
-            (S .placed k b hk lb hb .met)
-            (sym (keep-ord k b hk lb hb) ∙ sym eq ∙ ap (s' .ord) ea ∙ P .ord .here)
-
     new-open : (k : ℕ) → k < 256 → s' .root k < n → Opened g s' k
     new-open k hk h = ⊎-elim here there (was-open k hk h)
       where
@@ -377,7 +356,6 @@ module _ {n : ℕ} {adj : Adjacency} {g : ℕ → ℕ} {s s' : State} (S : Sound
           high = λ k hk. rw (P .head k) (omega (arith, S .high k hk, tail-up k hk));
           placed = new-placed;
           place = λ x hx. new-place x (byte x hx) hx;
-          once = new-once;
           open-root = new-open;
           idle = new-idle;
           waiting = new-waiting;

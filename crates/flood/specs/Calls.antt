@@ -118,7 +118,7 @@ spent heads tails = total 256 (λ (k : ℕ). getD heads k 0) + total 256 (λ (k 
 -- the words of a workspace that the flood of a picture of width w leaves
 abbrev pub FloodedBy : ℕ → List ℕ → List ℕ → Type 0
 FloodedBy w picture ws =
-    Flooded (length picture) (edge-neighbours w) (grey picture) (parent-of ws) (order-of (length picture) ws)
+    Flooded (length picture) (edge-neighbours w) (grey picture) (parent-of ws)
 
 -- the flood goes on at level r, or has ended, where r is 256
 abbrev pub Outcome : ℕ → List ℕ → List ℕ → List ℕ → List ℕ → List ℕ → ℕ → Type 0

@@ -100,8 +100,6 @@ pub record Sound (n : ℕ) (adj : Adjacency) (g : ℕ → ℕ) (s : State) : Typ
   pub high : (k : ℕ) → k < 256 → s .head k ≤ s .tail k
   pub placed : (k i : ℕ) → k < 256 → darker n g k ≤ i → i < s .tail k → Placed n g s k i
   pub place : (q : ℕ) → q < n → s .par q < n → Place n g s q
-  pub once :
-      (k i j : ℕ) → k < 256 → darker n g k ≤ i → i < s .tail k → darker n g k ≤ j → j < s .tail k → s .ord i ≡ s .ord j → i ≡ j
   pub open-root : (k : ℕ) → k < 256 → s .root k < n → Opened g s k
   pub idle : (k : ℕ) → k < 256 → n ≤ s .root k → s .head k ≡ s .tail k
   pub waiting : (k i : ℕ) → k < 256 → s .head k ≤ i → i < s .tail k → s .par (s .ord i) ≡ s .root k
@@ -140,9 +138,8 @@ pub record Closed (n l m : ℕ) (s s' : State) : Type 0 where
   pub head : (k : ℕ) → s' .head k ≡ s .head k
   pub tail : (k : ℕ) → s' .tail k ≡ s .tail k
 
--- what the flood leaves: parents that are node roots and join exactly what the picture's edges join, at every level; and the
--- pixels in the order of their greys, each once
-pub record Flooded (n : ℕ) (adj : Adjacency) (g par ord : ℕ → ℕ) : Type 0 where
+-- what the flood leaves: parents that are node roots and join exactly what the picture's edges join, at every level
+pub record Flooded (n : ℕ) (adj : Adjacency) (g par : ℕ → ℕ) : Type 0 where
   pub within : (q : ℕ) → q < n → par q < n
   pub rooted : (q : ℕ) → q < n → Rooted n g par q
   pub last : ℕ
@@ -153,7 +150,3 @@ pub record Flooded (n : ℕ) (adj : Adjacency) (g par ord : ℕ → ℕ) : Type 
       (h : ℕ) (G : Adjacency) → Contains n adj g h G → (q : ℕ) → q < n → h ≤ g (par q) → Joined G q (par q)
   pub edges :
       (h : ℕ) (G : Adjacency) → ((q : ℕ) → q < n → h ≤ g (par q) → Joined G q (par q)) → Contains n adj g h G
-  pub order : (i : ℕ) → i < n → ord i < n
-  pub place : (q : ℕ) → q < n → (i : ℕ) × (i < n) × (ord i ≡ q)
-  pub once : (i j : ℕ) → i < n → j < n → ord i ≡ ord j → i ≡ j
-  pub rising : (i j : ℕ) → i ≤ j → j < n → g (ord i) ≤ g (ord j)

@@ -1,5 +1,5 @@
-// Flooding of the max-tree with level queues. Part 1 of the workspace receives the parents, part 3 the pixels in the order of their
-// greys. The other parts are neither read nor written.
+// Flooding of the max-tree with level queues. Part 1 of the workspace receives the parents, part 3 holds the queues. The other parts are
+// neither read nor written.
 mod levels;
 mod queues;
 

@@ -107,7 +107,7 @@ module _ (w h : ℕ) (picture ws : List ℕ) (B : Buildable w h picture ws) wher
     g = grey picture
 
     flooded : Forest n adj g (parent-of ws₁)
-    flooded = flooded-forest n adj symm g (parent-of ws₁) (order-of n ws₁) left
+    flooded = flooded-forest n adj symm g (parent-of ws₁) left
 
     -- the same of as many pixels as the picture has bytes
     blank₃ : Blanked n a ws₁ ws₃

@@ -24,7 +24,7 @@ joined-label label p q (edge e) = eqb-true (label p) (label q) e
 joined-label label p q (back j) = sym (joined-label label q p j)
 joined-label label p q (then {q = m} i j) = joined-label label p m i ∙ joined-label label m q j
 
-module _ (n : ℕ) (adj : Adjacency) (symm : Symmetric adj) (g par ord : ℕ → ℕ) (flooded : Flooded n adj g par ord) where
+module _ (n : ℕ) (adj : Adjacency) (symm : Symmetric adj) (g par : ℕ → ℕ) (flooded : Flooded n adj g par) where
   -- the label of a component: its lowest position
   abbrev lowest-of : ℕ → ℕ → ℕ
   lowest-of h p = first-in n (member (component-at n adj g h p))
