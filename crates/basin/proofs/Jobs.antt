@@ -18,7 +18,6 @@ use Rattle.steps.specs.declared.Parsed.{Parsed}
 use Rattle.steps.specs.declared.Parsed.the-variants.{Steps, Refused as Not-parsed}
 use Rattle.basin.specs.declared.files.Loaded.{Loaded}
 use Rattle.basin.specs.declared.files.Loaded.the-variants.{Bytes, Failed}
-use Rattle.basin.specs.declared.judging.Lengths.{Lengths}
 use Rattle.basin.specs.declared.judging.Lengths.the-variants.{Both, Refused as Not-both}
 use Rattle.basin.specs.declared.judging.Job.{Job}
 use Rattle.basin.specs.declared.judging.Job.the-variants.{Size, Refused}

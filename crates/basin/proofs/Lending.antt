@@ -3,9 +3,8 @@ use Prim.Native.Nat.{ℕ, _≤_, _<_}
 use mathlib.Core.List.{List, _++_}
 use mathlib.Core.Path.{_≡_, refl, sym, _∙_, ap}
 use native.Mathlib.Omega.{arith}
-use lib.ListN.{length, take, drop}
-use lib.Seq.{length-take-le, take-at, sets, length-sets}
-use Rattle.causes.specs.declared.Cause.{Cause}
+use lib.ListN.{length, take}
+use lib.Seq.{length-take-le, take-at, length-sets}
 use Rattle.calls.specs.Calls.{map-judged}
 use Rattle.calls.specs.declared.Verdict.{Verdict}
 use Rattle.calls.specs.declared.Verdict.the-variants.{Accepted, Refused}

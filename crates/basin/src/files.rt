@@ -1,5 +1,4 @@
 // A file's bytes, up to the length of a buffer. No contract can say what is read.
-ghost use Prim.Native.Nat.{_≤_};
 ghost use lib.ListN.{length};
 ghost use Rattle.basin.specs.Loads.{loaded-within};
 

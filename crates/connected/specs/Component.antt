@@ -1,7 +1,7 @@
 -- Connected components of a set of positions below n, under an adjacency. A component is found by growing: n rounds from
 -- one position, each of which adds the neighbours that are in the set.
 use Prim.Native.Nat.{ℕ, zero, suc, _<_}
-use mathlib.Core.Bool.{Bool, true, false, _&&_, _||_}
+use mathlib.Core.Bool.{Bool, true, _&&_, _||_}
 use mathlib.Core.List.{List}
 use mathlib.Core.Path.{_≡_}
 use lib.Dec.{eqb}

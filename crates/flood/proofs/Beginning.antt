@@ -44,7 +44,6 @@ module _ {n : ℕ} {g : ℕ → ℕ} {s : State} (B : Untouched n g s) where
         waiting = λ k i h lo hi. absurd (omega (arith, heads k h, tails k h));
         finished = λ k i h lo hi. absurd (omega (arith, heads k h));
         rooted = λ q h m. absurd (omega (arith, unmet-all q h));
-        own = λ q h o. absurd (omega (arith, unmet-all q h));
         links = λ h G C.
             record {
               up = λ q hq m d. absurd (omega (arith, unmet-all q hq));

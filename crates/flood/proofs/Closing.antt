@@ -161,19 +161,6 @@ module _ {n : ℕ} {adj : Adjacency} {g : ℕ → ℕ} {s s' : State} (S : Sound
             let oo = C .par .there (s .par x) y-in far in
             record { within = rw (o, oo) (old .within); dim = rw o (old .dim); node = rw (o, oo) (old .node) })
 
-    new-own : (x : ℕ) → x < n → s' .par x ≡ x → s' .root (g x) ≡ x
-    new-own x hx o = by-cases (equal-or-not x (s .root l)) here there
-      where
-        here : x ≡ s .root l → s' .root (g x) ≡ x
-        here e =
-            let z : s .root m ≡ s .root l = sym (C .par .here) ∙ (rw e at o) in
-            absurd (root-apart m in-m open-m (λ k. omega arith) z)
-
-        there : (x ≡ s .root l → ⊥) → s' .root (g x) ≡ x
-        there ne =
-            let old = S .own x hx (sym (C .par .there x hx ne) ∙ o) in
-            C .root .there (g x) (byte x hx) (λ e. ne (sym old ∙ ap (s .root) e)) ∙ old
-
     new-links : (h : ℕ) (G : Adjacency) → Contains n adj g h G → Links n g s' h G
     new-links h G K = record { up = up; across = across }
       where
@@ -274,7 +261,6 @@ module _ {n : ℕ} {adj : Adjacency} {g : ℕ → ℕ} {s s' : State} (S : Sound
               let h : i < s .head k = rw (C .head k) at hi in
               rw (keep-ord k i hk (omega (arith, S .high k hk))) (finished-kept keep-met weaker (s .ord i) (S .finished k i hk li h));
           rooted = new-rooted;
-          own = new-own;
           links = new-links;
         }
 

@@ -2,7 +2,7 @@
 -- every pixel is met.
 use Prim.Native.Nat.{ℕ, zero, suc, _≤_, _<_}
 use mathlib.Core.Bool.{true}
-use mathlib.Core.Path.{_≡_, sym, ap, _∙_}
+use mathlib.Core.Path.{_≡_}
 use native.Mathlib.Omega.{arith}
 use Rattle.connected.specs.Component.{Adjacency}
 use Rattle.flood.specs.Flooding.{same, State, Finished, Sound, Flooded}
@@ -48,12 +48,6 @@ module _ {n : ℕ} {adj : Adjacency} {g : ℕ → ℕ} {s : State} (S : Sound n 
         record {
           within = met;
           rooted = λ q hq. S .rooted q hq (met q hq);
-          last = s .root l;
-          last-within = E .open-here;
-          last-own = S .open-root l (E .level) (E .open-here) .own;
-          own = λ q hq o.
-              let r = S .own q hq o in
-              sym r ∙ ap (s .root) (only (g q) (byte q hq) (rw r hq));
           links = λ h G C q hq d. S .links h G C .up q hq (met q hq) d;
           edges = λ h G up p q hp hq a lp lq.
               finished p hp (met p hp) .joined q hq a h G

@@ -124,7 +124,6 @@ module _ {n : ℕ} {adj : Adjacency} {g : ℕ → ℕ} {s : State} (S : Sound n 
             waiting = λ k i hk lo hi. S .waiting k i hk (omega (arith, head-up k hk)) hi;
             finished = new-finished;
             rooted = S .rooted;
-            own = S .own;
             links = λ h G C.
                 let L = S .links h G C in
                 record { up = L .up; across = L .across };

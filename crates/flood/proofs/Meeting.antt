@@ -287,17 +287,6 @@ module _ {n : ℕ} {adj : Adjacency} {g : ℕ → ℕ} {s s' : State} (S : Sound
               node = rw (o, oo) (old .node);
             }
 
-    new-own : (x : ℕ) → g x < 256 → x < n → s' .par x ≡ x → s' .root (g x) ≡ x
-    new-own x bx hx o = ⊎-elim here there (equal-or-not x q)
-      where
-        here : x ≡ q → s' .root (g x) ≡ x
-        here e = ap (s' .root) (ap g e ∙ grey-q) ∙ P .root .here ∙ sym (rw e (P .par .here)) ∙ o
-
-        there : (x ≡ q → ⊥) → s' .root (g x) ≡ x
-        there ne =
-            let old = S .own x hx (sym (P .par .there x hx ne) ∙ o) in
-            keep-root (g x) bx (rw old hx) ∙ old
-
     new-links : Reaches n adj g s l q → (h : ℕ) (G : Adjacency) → Contains n adj g h G → Links n g s' h G
     new-links reach h G C = record { up = up; across = across }
       where
@@ -361,7 +350,6 @@ module _ {n : ℕ} {adj : Adjacency} {g : ℕ → ℕ} {s s' : State} (S : Sound
           waiting = new-waiting;
           finished = new-finished;
           rooted = new-rooted;
-          own = λ x hx. new-own x (byte x hx) hx;
           links = new-links reach;
         }
 

@@ -105,7 +105,6 @@ pub record Sound (n : ℕ) (adj : Adjacency) (g : ℕ → ℕ) (s : State) : Typ
   pub waiting : (k i : ℕ) → k < 256 → s .head k ≤ i → i < s .tail k → s .par (s .ord i) ≡ s .root k
   pub finished : (k i : ℕ) → k < 256 → darker n g k ≤ i → i < s .head k → Finished n adj g s (s .ord i)
   pub rooted : (q : ℕ) → q < n → s .par q < n → Rooted n g (s .par) q
-  pub own : (q : ℕ) → q < n → s .par q ≡ q → s .root (g q) ≡ q
   pub links : (h : ℕ) (G : Adjacency) → Contains n adj g h G → Links n g s h G
 
 -- the flood works at level l: it is the brightest open level, and every open level has a pixel waiting
@@ -142,10 +141,6 @@ pub record Closed (n l m : ℕ) (s s' : State) : Type 0 where
 pub record Flooded (n : ℕ) (adj : Adjacency) (g par : ℕ → ℕ) : Type 0 where
   pub within : (q : ℕ) → q < n → par q < n
   pub rooted : (q : ℕ) → q < n → Rooted n g par q
-  pub last : ℕ
-  pub last-within : last < n
-  pub last-own : par last ≡ last
-  pub own : (q : ℕ) → q < n → par q ≡ q → q ≡ last
   pub links :
       (h : ℕ) (G : Adjacency) → Contains n adj g h G → (q : ℕ) → q < n → h ≤ g (par q) → Joined G q (par q)
   pub edges :

@@ -29,7 +29,7 @@ use Rattle.tree.proofs.Relabel.{relabel-root, relabel-forest, relabel-owned}
 use Rattle.calls.proofs.Accepted.{Bounded, bounded}
 use Rattle.flood.specs.Levels.{grey, total, Summed}
 use Rattle.flood.specs.Calls.{Sized, Floodable, FloodedBy}
-use Rattle.max_tree.specs.Accumulators.{nothing, single, combined, measured, gathered}
+use Rattle.max_tree.specs.Accumulators.{nothing, single, combined, measured}
 use Rattle.max_tree.specs.Branches.{owned, branch}
 use Rattle.flood.specs.Flooding.{parent-of, order-of, darker}
 use Rattle.flood.proofs.Tables.{total-below}

@@ -6,17 +6,15 @@ use mathlib.Core.List.{List}
 use mathlib.Core.Logic.{⊎-elim}
 use mathlib.Core.Path.{_≡_, refl, sym, ap, subst, _∙_}
 use native.Mathlib.Nat.{le-antisymm}
-use native.Mathlib.Numerals.{add-one}
 use native.Mathlib.Omega.{arith}
 use lib.Dec.{eqb, ltb}
 use lib.ListN.{getD, length, set, length-set, replicate, length-replicate, getD-replicate}
 use lib.Seq.{getD-set-same, getD-set-other}
 use borrow.Author.Tests.{eqb-true, eqb-false, eq-eqb, ne-eqb, ltb-true, lt-ltb, le-ltb}
 use Rattle.sets.specs.Sets.{Positions, count}
-use Rattle.sets.proofs.Tests.{decided, clash, is-false, same-truth, and-left, and-right, and-both, or-cases, or-left, or-right}
+use Rattle.sets.proofs.Tests.{decided, same-truth, and-left, and-right, and-both, or-cases, or-left, or-right}
 use Rattle.sets.proofs.Laws.{count-le}
 use Rattle.sets.proofs.Gather.{gather-ext, gather-none, first-in-le, first-in-holds}
-use Rattle.opening.proofs.Levels.{cond-case}
 use Rattle.tree.specs.Forest.{lowest}
 use Rattle.flood.specs.Levels.{grey}
 use Rattle.flood.proofs.Counts.{equal-or-not, bit, on, off}

@@ -19,7 +19,7 @@ use Rattle.tree.specs.Forest.{node-root, lowest}
 use Rattle.tree.proofs.Forest.{node-root-self}
 use Rattle.causes.proofs.Lists.{length-two}
 use Rattle.flood.specs.Levels.{grey}
-use Rattle.flood.specs.Flooding.{parent-of, order-of, darker, Changed}
+use Rattle.flood.specs.Flooding.{parent-of, order-of, Changed}
 use Rattle.flood.proofs.Counts.{equal-or-not}
 use Rattle.flood.proofs.Tables.{stored}
 use Rattle.max_tree.specs.Listing.{Listed}

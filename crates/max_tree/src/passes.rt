@@ -2,9 +2,9 @@
 // each node and part 5 the accumulator of its own pixels, both at the node's root; part 3 receives the representatives by rising level.
 ghost use mathlib.Core.Bool.{cond};
 ghost use mathlib.Core.Path.{_≡_};
-ghost use Prim.Native.Nat.{ℕ, _<_};
+ghost use Prim.Native.Nat.{_<_};
 ghost use lib.Dec.{eqb};
-ghost use lib.ListN.{getD, length};
+ghost use lib.ListN.{length};
 ghost use Rattle.flood.specs.Levels.{grey};
 ghost use Rattle.flood.specs.Calls.{Sized};
 ghost use Rattle.max_tree.specs.Passes.{Blanked, Blank, Noting, noted-at, counted-at, Owned, Writable, written-at, tails-at, is-first, Recordable, Recorded, Pour, poured-at, Pourable, Poured};

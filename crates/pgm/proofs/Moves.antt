@@ -7,7 +7,6 @@ use native.Mathlib.Decide.{ℕ-discrete}
 use borrow.Author.Tests.{ne-eqb, le-leb, lt-leb}
 use native.Mathlib.Omega.{arith}
 use Rattle.pgm.specs.Bytes.{is-white, is-digit, move-of}
-use Rattle.pgm.specs.declared.header.Move.{Move}
 use Rattle.pgm.specs.declared.header.Move.the-variants.{White, Digit, Comment, Foreign}
 
 not-white : (b : ℕ) → (b ≡ 9 → ⊥) → (b ≡ 10 → ⊥) → (b ≡ 13 → ⊥) → (b ≡ 32 → ⊥) → is-white b ≡ false

@@ -1,8 +1,8 @@
 -- The header of a file, read from a position on: the sign, then three times a gap and a number, then one white byte.
-use Prim.Native.Nat.{ℕ, zero, suc, _+_, _*_, _-_}
+use Prim.Native.Nat.{ℕ, suc, _+_, _*_, _-_}
 use mathlib.Core.Bool.{Bool, true, false, not, cond, _&&_}
 use mathlib.Core.List.{List, [], _∷_}
-use lib.ListN.{length, getD, take, drop}
+use lib.ListN.{length, getD, drop}
 use lib.Dec.{leb, ltb, eqb}
 use Rattle.pgm.specs.Bytes.{move-of, by-move, white-move, digit-move, ends-comment}
 use Rattle.pgm.specs.declared.header.Part.{Part}

@@ -1,5 +1,5 @@
 -- What reading a file answers: the picture that it holds, or the first cause that applies, in the order 8, 9, 10, 1, 11, 12.
-use Prim.Native.Nat.{ℕ, _+_, _*_, _-_}
+use Prim.Native.Nat.{ℕ, _*_, _-_}
 use mathlib.Core.Bool.{Bool, _&&_}
 use mathlib.Core.List.{List, []}
 use lib.ListN.{length, take, drop}

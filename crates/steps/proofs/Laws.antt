@@ -1,6 +1,6 @@
 -- What an accepted steps file gives: an attribute, a step list, and where its thresholds stand in the lent steps.
 use Prim.Native.Nat.{ℕ, _≤_}
-use mathlib.Core.Path.{_≡_, refl, sym, _∙_}
+use mathlib.Core.Path.{_≡_, sym, _∙_}
 use mathlib.Core.Bool.{Bool, true, false, cond, not}
 use mathlib.Core.List.{List, _++_}
 use native.Mathlib.Nat.{zero-add}

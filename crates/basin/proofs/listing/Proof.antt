@@ -3,7 +3,6 @@ use Prim.Native.Nat.{_-_, _≤_}
 use mathlib.Core.Path.{_≡_}
 use lib.ListN.{length}
 use borrow.Author.Needs.{needs}
-use native.Mathlib.Omega.{arith}
 use Rattle.basin.proofs.listing.Statement.{statement}
 use Rattle.basin.proofs.listing.Tie as tie
 use Rattle.basin.proofs.listing.Reads as reads

@@ -2,7 +2,6 @@
 use Prim.Native.Nat.{_≤_, _-_}
 use lib.ListN.{length}
 use borrow.Author.Needs.{needs}
-use native.Mathlib.Omega.{arith}
 use Rattle.build_cases.proofs.words.Statement.{statement}
 use Rattle.build_cases.proofs.words.Tie as tie
 use Rattle.build_cases.proofs.words.Reads as reads

@@ -1,6 +1,6 @@
 -- `causes::fit` meets its contract: each test that fails decides the answer, and a product of two sides of at most 4,096 fits.
 -- Assumes nothing.
-use Prim.Native.Nat.{ℕ, _≤_, _*_}
+use Prim.Native.Nat.{_≤_, _*_}
 use borrow.Author.Tests.{lt-leb, le-leb}
 use native.Mathlib.Nat.{mul-le-mul}
 use native.Mathlib.Omega.{arith}

@@ -1,7 +1,5 @@
 -- `pgm::allowed` meets its contract. Assumes nothing.
 use borrow.Author.Tests.{le-leb, lt-leb}
-use borrow.Author.Needs.{needs}
-use native.Mathlib.Omega.{arith}
 use Rattle.pgm.proofs.allowed.Statement.{statement}
 use Rattle.pgm.proofs.allowed.Tie as tie
 use Rattle.pgm.proofs.allowed.Reads as reads

@@ -1,7 +1,6 @@
 use Rattle.pgm.proofs.Judging.{none-follow}
 -- `pgm::follow` meets its contract: past the end no byte follows. Assumes nothing.
 use borrow.Author.Needs.{needs}
-use native.Mathlib.Omega.{arith}
 use Rattle.pgm.proofs.follow.Statement.{statement}
 use Rattle.pgm.proofs.follow.Tie as tie
 use Rattle.pgm.proofs.follow.Reads as reads

@@ -9,7 +9,6 @@ use Rattle.pgm.specs.Read.{judged}
 use Rattle.pgm.specs.Samples.{largest}
 use Rattle.pgm.proofs.Judging.{judged-maximum, judged-sides, judged-length, judged-sample, judged-picture, samples-above, samples-within}
 use borrow.Author.Needs.{needs}
-use native.Mathlib.Omega.{arith}
 use Rattle.pgm.proofs.judge.Statement.{statement}
 use Rattle.pgm.proofs.judge.Tie as tie
 use Rattle.pgm.proofs.judge.Reads as reads

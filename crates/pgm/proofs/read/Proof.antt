@@ -3,7 +3,6 @@ use mathlib.Core.Path.{_∙_, sym, ap}
 use Rattle.pgm.specs.Read.{judged, found-number}
 use Rattle.pgm.proofs.Judging.{read-signed, read-unsigned}
 use borrow.Author.Needs.{needs}
-use native.Mathlib.Omega.{arith}
 use Rattle.pgm.proofs.read.Statement.{statement}
 use Rattle.pgm.proofs.read.Tie as tie
 use Rattle.pgm.proofs.read.Reads as reads

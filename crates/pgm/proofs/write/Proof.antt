@@ -3,7 +3,6 @@ use Rattle.pgm.proofs.Judging.{writable-is, fields-fit, buffer-written,
 use mathlib.Core.Path.{_∙_, sym, ap}
 use Rattle.pgm.specs.Write.{written-number}
 use borrow.Author.Needs.{needs}
-use native.Mathlib.Omega.{arith}
 use Rattle.pgm.proofs.write.Statement.{statement}
 use Rattle.pgm.proofs.write.Tie as tie
 use Rattle.pgm.proofs.write.Reads as reads

@@ -2,7 +2,6 @@
 use Prim.Native.Nat.{_≤_, _-_}
 use lib.ListN.{length}
 use borrow.Author.Needs.{needs}
-use native.Mathlib.Omega.{arith}
 use Rattle.pgm_cases.proofs.bytes.Statement.{statement}
 use Rattle.pgm_cases.proofs.bytes.Tie as tie
 use Rattle.pgm_cases.proofs.bytes.Reads as reads

@@ -2,7 +2,6 @@
 use mathlib.Core.Path.{_∙_, sym, ap}
 use Rattle.teldruf.specs.Codes.{mapped-code}
 use borrow.Author.Needs.{needs}
-use native.Mathlib.Omega.{arith}
 use Rattle.teldruf.proofs.teldruf_map.Statement.{statement}
 use Rattle.teldruf.proofs.teldruf_map.Tie as tie
 use Rattle.teldruf.proofs.teldruf_map.Reads as reads

@@ -2,7 +2,6 @@
 use mathlib.Core.Path.{_∙_, sym, ap}
 use Rattle.teldruf.specs.Codes.{opened-code}
 use borrow.Author.Needs.{needs}
-use native.Mathlib.Omega.{arith}
 use Rattle.teldruf.proofs.teldruf_open.Statement.{statement}
 use Rattle.teldruf.proofs.teldruf_open.Tie as tie
 use Rattle.teldruf.proofs.teldruf_open.Reads as reads

@@ -4,7 +4,6 @@ use denote.Ref.{now}
 use Rattle.pgm.specs.declared.Found.{Found}
 use Rattle.teldruf.specs.Codes.{found-code, head-with}
 use borrow.Author.Needs.{needs}
-use native.Mathlib.Omega.{arith}
 use Rattle.teldruf.proofs.teldruf_read_pgm.Statement.{statement}
 use Rattle.teldruf.proofs.teldruf_read_pgm.Tie as tie
 use Rattle.teldruf.proofs.teldruf_read_pgm.Reads as reads

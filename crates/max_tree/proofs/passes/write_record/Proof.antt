@@ -3,7 +3,6 @@ use Prim.Native.Nat.{_-_}
 use native.Mathlib.Omega.{arith}
 use lib.ListN.{length}
 use Rattle.max_tree.proofs.Writing.{Writing, writing-none, write-asked, writing-more, number-room, writing-end}
-use borrow.Author.Needs.{needs}
 use Rattle.max_tree.proofs.passes.write_record.Statement.{statement}
 use Rattle.max_tree.proofs.passes.write_record.Tie as tie
 

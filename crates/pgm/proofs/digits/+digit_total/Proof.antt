@@ -2,7 +2,6 @@
 use Prim.Native.Nat.{ℕ, _<_, _/_}
 use mathlib.Core.Path.{sym}
 use Rattle.pgm.proofs.Decimals.{length-decimal, length-short, length-long}
-use borrow.Author.Needs.{needs}
 use native.Mathlib.Omega.{arith}
 use Prim.Native.Nat.{ℕ, _<_}
 use borrow.Fn.Kinds.{In}

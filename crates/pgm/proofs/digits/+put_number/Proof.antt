@@ -1,9 +1,7 @@
 -- `pgm::digits::put_number` meets its contract, by recursion on the number, which falls. Assumes nothing.
-use Prim.Native.Nat.{ℕ, _<_, _/_}
-use mathlib.Core.Path.{sym, _∙_}
+use Prim.Native.Nat.{ℕ, _<_}
 use lib.ListN.{length-set}
-use Rattle.pgm.proofs.Decimals.{length-decimal, length-short, length-long, store-short, store-long}
-use borrow.Author.Needs.{needs}
+use Rattle.pgm.proofs.Decimals.{length-short, length-long, store-short, store-long}
 use native.Mathlib.Omega.{arith}
 use Prim.Native.Nat.{ℕ, _<_}
 use borrow.Fn.Kinds.{In}

@@ -1,5 +1,4 @@
 use borrow.Author.Tests.{eq-eqb, ne-eqb}
-use native.Mathlib.Omega.{arith}
 use Rattle.pgm.proofs.header.ends_comment.Statement.{statement}
 use Rattle.pgm.proofs.header.ends_comment.Tie as tie
 use Rattle.pgm.proofs.header.ends_comment.Reads as reads

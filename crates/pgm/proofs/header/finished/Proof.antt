@@ -1,7 +1,5 @@
 -- `pgm::header::finished` meets its contract. Assumes nothing.
 use borrow.Author.Tests.{eq-eqb, ne-eqb}
-use borrow.Author.Needs.{needs}
-use native.Mathlib.Omega.{arith}
 use Rattle.pgm.proofs.header.finished.Statement.{statement}
 use Rattle.pgm.proofs.header.finished.Tie as tie
 use Rattle.pgm.proofs.header.finished.Reads as reads

@@ -1,12 +1,11 @@
 -- `pgm::header::gap_end` meets its contract. At the head of the outer loop the rest of the gap starts at `at`; at the head of the
 -- inner one the same, inside a comment. The measure of both is what is left of the file. Assumes nothing.
-use Prim.Native.Nat.{ℕ, _+_, _-_, _≤_}
-use mathlib.Core.Path.{_≡_, refl, _∙_, sym, ap}
-use mathlib.Core.Bool.{Bool, true, false, not}
-use lib.ListN.{length, drop, getD}
+use Prim.Native.Nat.{_+_, _-_, _≤_}
+use mathlib.Core.Path.{_≡_, refl, _∙_, sym}
+use mathlib.Core.Bool.{true, false}
+use lib.ListN.{length, drop}
 use borrow.Author.Needs.{needs}
 use native.Mathlib.Omega.{arith}
-use denote.Ref.{now}
 use Rattle.pgm.specs.Header.{gap-length}
 use Rattle.pgm.proofs.Scan.{gap-past-end, gap-white, gap-comment, gap-digit, gap-foreign, gap-comment-on, gap-comment-end}
 use Rattle.pgm.proofs.header.gap_end.Statement.{statement}

@@ -2,7 +2,7 @@
 use denote.Ref.{now}
 use Rattle.pgm.proofs.Scan.{second-of-sign}
 use borrow.Author.Needs.{needs}
-use borrow.Author.Tests.{eq-eqb, ne-eqb, le-leb, lt-leb}
+use borrow.Author.Tests.{ne-eqb, le-leb, lt-leb}
 use Rattle.pgm.proofs.header.has_sign.Statement.{statement}
 use Rattle.pgm.proofs.header.has_sign.Tie as tie
 use Rattle.pgm.proofs.header.has_sign.Reads as reads

@@ -1,5 +1,5 @@
 -- `pgm::header::number_at` meets its contract: at the loop's head the digits before `at` have been read. Assumes nothing.
-use Prim.Native.Nat.{ℕ, _-_, _<_}
+use Prim.Native.Nat.{_-_, _<_}
 use mathlib.Core.Path.{_≡_, _∙_, sym, ap}
 use mathlib.Core.Bool.{true}
 use lib.ListN.{length, getD}

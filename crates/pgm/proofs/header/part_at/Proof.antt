@@ -2,7 +2,6 @@
 use mathlib.Core.Path.{_∙_, sym}
 use Rattle.pgm.proofs.Scan.{part-after-gap, part-without-gap}
 use borrow.Author.Needs.{needs}
-use native.Mathlib.Omega.{arith}
 use Rattle.pgm.proofs.header.part_at.Statement.{statement}
 use Rattle.pgm.proofs.header.part_at.Tie as tie
 use Rattle.pgm.proofs.header.part_at.Reads as reads

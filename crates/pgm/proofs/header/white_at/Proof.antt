@@ -3,7 +3,6 @@ use borrow.Author.Tests.{le-ltb, lt-ltb}
 use mathlib.Core.Path.{_∙_, ap}
 use Rattle.pgm.specs.Bytes.{white-move}
 use borrow.Author.Needs.{needs}
-use native.Mathlib.Omega.{arith}
 use Rattle.pgm.proofs.header.white_at.Statement.{statement}
 use Rattle.pgm.proofs.header.white_at.Tie as tie
 use Rattle.pgm.proofs.header.white_at.Reads as reads

@@ -2,7 +2,6 @@
 use Prim.Native.Nat.{_-_}
 use lib.ListN.{length}
 use Rattle.pgm.proofs.Stores.{StoredSoFar, stored-none, stored-length, stored-more, stored-all}
-use borrow.Author.Needs.{needs}
 use native.Mathlib.Omega.{arith}
 use Rattle.pgm.proofs.samples.put_samples.Statement.{statement}
 use Rattle.pgm.proofs.samples.put_samples.Tie as tie
