@@ -6,8 +6,7 @@ use native.Mathlib.Omega.{arith}
 use lib.ListN.{length, take}
 use lib.Seq.{length-take-le, take-at, length-sets}
 use Rattle.calls.specs.Calls.{map-judged}
-use Rattle.calls.specs.declared.Verdict.{Verdict}
-use Rattle.calls.specs.declared.Verdict.the-variants.{Accepted, Refused}
+use Rattle.calls.specs.declared.Verdict.the-variants.{Accepted}
 use Rattle.calls.proofs.Accepted.{passed, bounded}
 use Rattle.steps.specs.Answer.{steps-in, parse-answer, steps-with, steps-after}
 use Rattle.steps.specs.declared.Parsed.{Parsed}
@@ -16,8 +15,6 @@ use Rattle.steps.proofs.Laws.{accepted-file}
 use Rattle.basin.specs.Loads.{loaded-within}
 use Rattle.basin.specs.declared.files.Loaded.{Loaded}
 use Rattle.basin.specs.declared.files.Loaded.the-variants.{Bytes, Failed}
-use Rattle.residues.specs.Answer.{mapped-as}
-use Rattle.residues.specs.declared.Mapped.the-variants.{Done}
 
 pub taken : (l : List ℕ) (k : ℕ) → k ≤ length l → k ≡ length (take k l)
 taken l k h = sym (length-take-le k l h)
@@ -28,14 +25,10 @@ returned part l rest k h kept =
     let e : length part ≡ k = kept ∙ length-take-le k l h in
     ap length (take-at part rest k e) ∙ e
 
-accepted-of : (verdict : Verdict) → mapped-as verdict ≡ Done → verdict ≡ Accepted
-accepted-of Accepted e = refl
-accepted-of (Refused cause) e = let z : _≡_ {A = ℕ} 0 1 = cc in absurd (omega arith)
-
 -- a picture whose maps are done has a column
-pub done-wide : (w h a : ℕ) (steps picture workspace residue index : List ℕ) → mapped-as (map-judged w h a steps picture workspace residue index) ≡ Done → 0 < w
+pub done-wide : (w h a : ℕ) (steps picture workspace residue index : List ℕ) → map-judged w h a steps picture workspace residue index ≡ Accepted → 0 < w
 done-wide w h a steps picture workspace residue index e =
-    bounded w h (passed w h a (length picture) _ (length workspace) _ (accepted-of (map-judged w h a steps picture workspace residue index) e) .sides) .wide
+    bounded w h (passed w h a (length picture) _ (length workspace) _ e .sides) .wide
 
 -- the steps that parsing leaves: as many entries as were lent, room for all that it counts
 steps-length : (answer : Parsed) (thresholds lent : List ℕ) → length (steps-with answer thresholds lent) ≡ length lent

@@ -110,8 +110,8 @@ fn sized(
         &mut index[..n],
     );
     match mapped {
-        residues::Mapped::Done => listing(picture, width, &residue[..n], &index[..n]),
-        residues::Mapped::Refused(cause) => refused(cause),
+        calls::Verdict::Accepted => listing(picture, width, &residue[..n], &index[..n]),
+        calls::Verdict::Refused(cause) => refused(cause),
     }
 }
 

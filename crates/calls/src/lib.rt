@@ -4,7 +4,7 @@ ghost use mathlib.Core.Path.{_≡_};
 ghost use lib.Dec.{eqb};
 ghost use Rattle.calls.specs.Judging.{attribute-good, threshold-good, steps-good, call-verdict};
 
-// Whether a call is accepted, and if not the first cause that applies.
+// Whether a call is accepted, and if not the first cause that applies. This is also what an opening call and a map call answer.
 pub enum Verdict {
     Accepted,
     Refused(causes::Cause),

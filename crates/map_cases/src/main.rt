@@ -52,10 +52,10 @@ fn words(s: &[u32]) {
     }
 }
 
-fn answer(mapped: residues::Mapped) {
+fn answer(mapped: calls::Verdict) {
     match mapped {
-        residues::Mapped::Done => text(b"\tdone"),
-        residues::Mapped::Refused(cause) => {
+        calls::Verdict::Accepted => text(b"\tdone"),
+        calls::Verdict::Refused(cause) => {
             text(b"\trefused ");
             number(causes::number(cause) as u64);
         }

@@ -15,11 +15,8 @@ use Rattle.causes.specs.declared.Cause.{Cause}
 use Rattle.calls.specs.Judging.{threshold-good, call-verdict, verdict-number}
 use Rattle.calls.specs.Calls.{grey, opened-picture, record-of, call-workspace, opening-judged, opening-output}
 use Rattle.calls.specs.declared.Verdict.{Verdict}
-use Rattle.calls.specs.declared.Verdict.the-variants.{Accepted, Refused as Not-accepted}
+use Rattle.calls.specs.declared.Verdict.the-variants.{Accepted, Refused}
 use Rattle.calls.proofs.Accepted.{Passed, passed, bounded}
-use Rattle.openings.specs.Answer.{opened-as, opened-number}
-use Rattle.openings.specs.declared.Opened.the-variants.{Done, Refused}
-use Rattle.openings.specs.declared.Opened.{Opened}
 use Rattle.openings.specs.Climbing.{Climbable, Opened-before}
 use Rattle.openings.proofs.Record.{record-climbable, pass-opened}
 
@@ -60,18 +57,18 @@ judged-by w h a t picture lent output thresholds outputs verdict judged good ent
     record { same = judged ∙ rw (good, entries) }
 
 -- what holds of the answer, the workspace and the output after a call
-abbrev pub Called : ℕ → ℕ → ℕ → ℕ → List ℕ → List ℕ → List ℕ → Opened → List ℕ → List ℕ → Type 0
+abbrev pub Called : ℕ → ℕ → ℕ → ℕ → List ℕ → List ℕ → List ℕ → Verdict → List ℕ → List ℕ → Type 0
 Called w h a t picture lent output answer workspace written =
-    (answer ≡ opened-as (opening-judged w h a t picture lent output))
-    × ((opened-number answer ≡ verdict-number (opening-judged w h a t picture lent output))
+    (answer ≡ opening-judged w h a t picture lent output)
+    × ((verdict-number answer ≡ verdict-number (opening-judged w h a t picture lent output))
     × ((workspace ≡ call-workspace (opening-judged w h a t picture lent output) w h a picture lent)
     × (written ≡ opening-output w h a t picture lent output)))
 
 module _ {w h a t : ℕ} {picture lent output : List ℕ} {verdict : Verdict} (judged : Judged w h a t picture lent output verdict) where
-  pub called-refused : {cause : Cause} → verdict ≡ Not-accepted cause → Called w h a t picture lent output (Refused cause) lent output
+  pub called-refused : {cause : Cause} → verdict ≡ Refused cause → Called w h a t picture lent output (Refused cause) lent output
   unfolding call-workspace opening-output
   called-refused {cause} refused =
-      let is : opening-judged w h a t picture lent output ≡ Not-accepted cause = sym (judged .same) ∙ refused in
+      let is : opening-judged w h a t picture lent output ≡ Refused cause = sym (judged .same) ∙ refused in
       rw is (refl, (refl, (refl, refl)))
 
   module _ (accepted : verdict ≡ Accepted) where
@@ -89,7 +86,7 @@ module _ {w h a t : ℕ} {picture lent output : List ℕ} {verdict : Verdict} (j
 
     pub called-done : (workspace written : List ℕ) → workspace ≡ record-of w h a picture → length written ≡ length output
         → Opened-before picture workspace (length picture) t (length picture) written
-        → Called w h a t picture lent output Done workspace written
+        → Called w h a t picture lent output Accepted workspace written
     unfolding call-workspace opening-output
     called-done workspace written built same found =
         let is : opening-judged w h a t picture lent output ≡ Accepted = sym (judged .same) ∙ accepted in

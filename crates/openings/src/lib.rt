@@ -5,14 +5,7 @@ ghost use mathlib.Core.Path.{_≡_};
 ghost use lib.ListN.{length};
 ghost use Rattle.calls.specs.Judging.{verdict-number};
 ghost use Rattle.calls.specs.Calls.{opening-judged, call-workspace, opening-output};
-ghost use Rattle.openings.specs.Answer.{opened-as, opened-number};
 ghost use Rattle.openings.specs.Climbing.{Climbable, From, Kept, Opened-to, Opened-before, Pass};
-
-// What an opening call answers.
-pub enum Opened {
-    Done,
-    Refused(causes::Cause),
-}
 
 // The grey of the nearest kept ancestor of the node of `r`, itself among them: recursion to the parent, whose level is below.
 fn climb(picture: &[u8], words: &[u32], n: usize, r: usize, threshold: u32) -> u8
@@ -66,9 +59,9 @@ pub fn open(
     threshold: u32,
     workspace: &mut [u32],
     output: &mut [u8],
-) -> Opened
-    ensures { λ r. ⌜ r ≡ opened-as (opening-judged width height attribute threshold (now (picture .entry)) (now (workspace .entry)) (now (output .entry))) ⌝ }
-    ensures { λ r. ⌜ opened-number r ≡ verdict-number (opening-judged width height attribute threshold (now (picture .entry)) (now (workspace .entry)) (now (output .entry))) ⌝ }
+) -> calls::Verdict
+    ensures { λ r. ⌜ r ≡ opening-judged width height attribute threshold (now (picture .entry)) (now (workspace .entry)) (now (output .entry)) ⌝ }
+    ensures { λ r. ⌜ verdict-number r ≡ verdict-number (opening-judged width height attribute threshold (now (picture .entry)) (now (workspace .entry)) (now (output .entry))) ⌝ }
     ensures { λ r. ⌜ now (workspace .exit) ≡ call-workspace (opening-judged width height attribute threshold (now (picture .entry)) (now (workspace .entry)) (now (output .entry))) width height attribute (now (picture .entry)) (now (workspace .entry)) ⌝ }
     ensures { λ r. ⌜ now (output .exit) ≡ opening-output width height attribute threshold (now (picture .entry)) (now (workspace .entry)) (now (output .entry)) ⌝ }
 {
@@ -85,12 +78,12 @@ pub fn open(
     );
     match verdict {
         calls::Verdict::Refused(cause) => {
-            return Opened::Refused(cause);
+            return calls::Verdict::Refused(cause);
         }
         calls::Verdict::Accepted => {
             max_tree::build_record(picture, width, height, attribute, workspace);
             open_record(picture, workspace, threshold, output);
-            return Opened::Done;
+            return calls::Verdict::Accepted;
         }
     }
 }

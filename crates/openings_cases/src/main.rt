@@ -32,12 +32,12 @@ fn print_bytes(bytes: &[u8]) {
     }
 }
 
-fn print_answer(answer: openings::Opened) {
+fn print_answer(answer: calls::Verdict) {
     match answer {
-        openings::Opened::Done => {
+        calls::Verdict::Accepted => {
             io::write_all(1, b"done,");
         }
-        openings::Opened::Refused(cause) => {
+        calls::Verdict::Refused(cause) => {
             io::write_all(1, b"refused");
             print_number(wide_word(causes::number(cause)));
             io::write_all(1, b",");

@@ -20,16 +20,13 @@ use Rattle.causes.specs.declared.Cause.{Cause}
 use Rattle.calls.specs.Judging.{steps-good, call-verdict, verdict-number}
 use Rattle.calls.specs.Calls.{grey, record-of, call-workspace, map-judged, map-residues, map-indices}
 use Rattle.calls.specs.declared.Verdict.{Verdict}
-use Rattle.calls.specs.declared.Verdict.the-variants.{Accepted, Refused as Not-accepted}
+use Rattle.calls.specs.declared.Verdict.the-variants.{Accepted, Refused}
 use Rattle.calls.proofs.Accepted.{Passed, passed, bounded, Step-list, step-list}
 use Rattle.flood.specs.Flooding.{order-of}
 use Rattle.flood.specs.Calls.{Sized}
 use Rattle.max_tree.specs.Building.{Buildable, Ordered}
 use Rattle.residues.specs.Passes.{Given, Ready}
 use Rattle.residues.specs.Recorded.{Recorded, Written}
-use Rattle.residues.specs.Answer.{mapped-as, mapped-number}
-use Rattle.residues.specs.declared.Mapped.{Mapped}
-use Rattle.residues.specs.declared.Mapped.the-variants.{Done, Refused}
 use Rattle.residues.proofs.Climbing.{recorded-climbable}
 
 -- where three parts are as they were, two are
@@ -91,21 +88,21 @@ judged-by w h a steps picture lent residues indices thresholds outputs verdict j
     record { same = judged ∙ rw (good, entries) }
 
 -- what holds of the answer, the workspace and the maps after a call
-abbrev pub Called : ℕ → ℕ → ℕ → List ℕ → List ℕ → List ℕ → List ℕ → List ℕ → Mapped → List ℕ → List ℕ → List ℕ → Type 0
+abbrev pub Called : ℕ → ℕ → ℕ → List ℕ → List ℕ → List ℕ → List ℕ → List ℕ → Verdict → List ℕ → List ℕ → List ℕ → Type 0
 Called w h a steps picture lent residues indices answer left best index =
-    (answer ≡ mapped-as (map-judged w h a steps picture lent residues indices))
-    × ((mapped-number answer ≡ verdict-number (map-judged w h a steps picture lent residues indices))
+    (answer ≡ map-judged w h a steps picture lent residues indices)
+    × ((verdict-number answer ≡ verdict-number (map-judged w h a steps picture lent residues indices))
     × ((left ≡ call-workspace (map-judged w h a steps picture lent residues indices) w h a picture lent)
     × ((best ≡ map-residues w h a steps picture lent residues indices)
     × (index ≡ map-indices w h a steps picture lent residues indices))))
 
 module _ {w h a : ℕ} {steps picture lent residues indices : List ℕ} {verdict : Verdict}
     (judged : Judged w h a steps picture lent residues indices verdict) where
-  pub called-refused : {cause : Cause} → verdict ≡ Not-accepted cause
+  pub called-refused : {cause : Cause} → verdict ≡ Refused cause
       → Called w h a steps picture lent residues indices (Refused cause) lent residues indices
   unfolding call-workspace map-residues map-indices
   called-refused {cause} refused =
-      let is : map-judged w h a steps picture lent residues indices ≡ Not-accepted cause = sym (judged .same) ∙ refused in
+      let is : map-judged w h a steps picture lent residues indices ≡ Refused cause = sym (judged .same) ∙ refused in
       rw is (refl, (refl, (refl, (refl, refl))))
 
   module _ (accepted : verdict ≡ Accepted) where
@@ -160,7 +157,7 @@ module _ {w h a : ℕ} {steps picture lent residues indices : List ℕ} {verdict
 
       pub called-done : {ws' left best index : List ℕ} → Written picture steps nodes ws ws' best index
           → left ≡ take (2 * length picture) ws' ++ replicate (4 * length picture) 0
-          → Called w h a steps picture lent residues indices Done left best index
+          → Called w h a steps picture lent residues indices Accepted left best index
       unfolding call-workspace map-residues map-indices
       called-done {ws'} {left} written cleared =
           let is : map-judged w h a steps picture lent residues indices ≡ Accepted = sym (judged .same) ∙ accepted in

@@ -1,4 +1,3 @@
 pub mod Settle
 pub mod Passes
 pub mod Recorded
-pub mod Answer

@@ -5,15 +5,8 @@ ghost use Prim.Native.Nat.{_*_};
 ghost use lib.Dec.{eqb};
 ghost use Rattle.calls.specs.Judging.{verdict-number};
 ghost use Rattle.calls.specs.Calls.{map-judged, call-workspace, map-residues, map-indices};
-ghost use Rattle.residues.specs.Answer.{mapped-as, mapped-number};
 
 mod passes;
-
-// What a map call answers.
-pub enum Mapped {
-    Done,
-    Refused(causes::Cause),
-}
 
 // Whether both maps have one entry for each pixel.
 fn maps_fit(width: u32, height: u32, residues: usize, indices: usize) -> bool
@@ -35,9 +28,9 @@ pub fn map(
     workspace: &mut [u32],
     residue: &mut [u8],
     index: &mut [u16],
-) -> Mapped
-    ensures { λ r. ⌜ r ≡ mapped-as (map-judged width height attribute (now (steps .entry)) (now (picture .entry)) (now (workspace .entry)) (now (residue .entry)) (now (index .entry))) ⌝ }
-    ensures { λ r. ⌜ mapped-number r ≡ verdict-number (map-judged width height attribute (now (steps .entry)) (now (picture .entry)) (now (workspace .entry)) (now (residue .entry)) (now (index .entry))) ⌝ }
+) -> calls::Verdict
+    ensures { λ r. ⌜ r ≡ map-judged width height attribute (now (steps .entry)) (now (picture .entry)) (now (workspace .entry)) (now (residue .entry)) (now (index .entry)) ⌝ }
+    ensures { λ r. ⌜ verdict-number r ≡ verdict-number (map-judged width height attribute (now (steps .entry)) (now (picture .entry)) (now (workspace .entry)) (now (residue .entry)) (now (index .entry))) ⌝ }
     ensures { λ _. ⌜ now (workspace .exit) ≡ call-workspace (map-judged width height attribute (now (steps .entry)) (now (picture .entry)) (now (workspace .entry)) (now (residue .entry)) (now (index .entry))) width height attribute (now (picture .entry)) (now (workspace .entry)) ⌝ }
     ensures { λ _. ⌜ now (residue .exit) ≡ map-residues width height attribute (now (steps .entry)) (now (picture .entry)) (now (workspace .entry)) (now (residue .entry)) (now (index .entry)) ⌝ }
     ensures { λ _. ⌜ now (index .exit) ≡ map-indices width height attribute (now (steps .entry)) (now (picture .entry)) (now (workspace .entry)) (now (residue .entry)) (now (index .entry)) ⌝ }
@@ -55,13 +48,13 @@ pub fn map(
     );
     match verdict {
         calls::Verdict::Refused(cause) => {
-            return Mapped::Refused(cause);
+            return calls::Verdict::Refused(cause);
         }
         calls::Verdict::Accepted => {
             let nodes = max_tree::build_ordered(picture, width, height, attribute, workspace);
             passes::write_maps(picture, steps, nodes as usize, workspace, residue, index);
             max_tree::clear_scratch(picture.len(), workspace);
-            return Mapped::Done;
+            return calls::Verdict::Accepted;
         }
     }
 }

@@ -11,10 +11,8 @@ use Rattle.pgm.specs.declared.Written.{Written}
 use Rattle.pgm.specs.declared.Written.the-variants.{Bytes, Refused as NotWritten}
 use Rattle.calls.specs.declared.Built.{Built}
 use Rattle.calls.specs.declared.Built.the-variants.{Nodes, Refused as NotBuilt}
-use Rattle.openings.specs.declared.Opened.{Opened}
-use Rattle.openings.specs.declared.Opened.the-variants.{Done as OpeningDone, Refused as NotOpened}
-use Rattle.residues.specs.declared.Mapped.{Mapped}
-use Rattle.residues.specs.declared.Mapped.the-variants.{Done as MapsDone, Refused as NotMapped}
+use Rattle.calls.specs.declared.Verdict.{Verdict}
+use Rattle.calls.specs.declared.Verdict.the-variants.{Accepted, Refused as NotAccepted}
 
 abbrev pub refused-code : Cause → ℕ
 refused-code cause = number-of cause * 2 ^ 32
@@ -36,10 +34,7 @@ abbrev pub built-code : Built → ℕ
 built-code (Nodes total) = total
 built-code (NotBuilt cause) = refused-code cause
 
-abbrev pub opened-code : Opened → ℕ
-opened-code OpeningDone = 0
-opened-code (NotOpened cause) = refused-code cause
-
-abbrev pub mapped-code : Mapped → ℕ
-mapped-code MapsDone = 0
-mapped-code (NotMapped cause) = refused-code cause
+-- of an opening call and of a map call
+abbrev pub verdict-code : Verdict → ℕ
+verdict-code Accepted = 0
+verdict-code (NotAccepted cause) = refused-code cause

@@ -6,9 +6,7 @@ ghost use Rattle.pgm.specs.Read.{read-answer};
 ghost use Rattle.pgm.specs.Write.{write-answer, buffer-after};
 ghost use Rattle.calls.specs.Judging.{build-verdict};
 ghost use Rattle.calls.specs.Calls.{built, call-workspace, opening-judged, opening-output, map-judged, map-residues, map-indices};
-ghost use Rattle.openings.specs.Answer.{opened-as};
-ghost use Rattle.residues.specs.Answer.{mapped-as};
-ghost use Rattle.teldruf.specs.Codes.{refused-code, found-code, head-with, written-code, built-code, opened-code, mapped-code};
+ghost use Rattle.teldruf.specs.Codes.{refused-code, found-code, head-with, written-code, built-code, verdict-code};
 use causes::Cause;
 
 fn refused(cause: Cause) -> u64
@@ -85,7 +83,7 @@ pub extern "C" fn teldruf_open(
     workspace: &mut [u32],
     output: &mut [u8],
 ) -> u64
-    ensures { λ r. ⌜ r ≡ opened-code (opened-as (opening-judged width height attribute threshold (now (picture .entry)) (now (workspace .entry)) (now (output .entry)))) ⌝ }
+    ensures { λ r. ⌜ r ≡ verdict-code (opening-judged width height attribute threshold (now (picture .entry)) (now (workspace .entry)) (now (output .entry))) ⌝ }
     ensures { λ _. ⌜ now (workspace .exit) ≡ call-workspace (opening-judged width height attribute threshold (now (picture .entry)) (now (workspace .entry)) (now (output .entry))) width height attribute (now (picture .entry)) (now (workspace .entry)) ⌝ }
     ensures { λ _. ⌜ now (output .exit) ≡ opening-output width height attribute threshold (now (picture .entry)) (now (workspace .entry)) (now (output .entry)) ⌝ }
 {
@@ -98,8 +96,8 @@ pub extern "C" fn teldruf_open(
         workspace,
         output,
     ) {
-        openings::Opened::Done => 0,
-        openings::Opened::Refused(cause) => refused(cause),
+        calls::Verdict::Accepted => 0,
+        calls::Verdict::Refused(cause) => refused(cause),
     }
 }
 
@@ -115,7 +113,7 @@ pub extern "C" fn teldruf_map(
     residue: &mut [u8],
     index: &mut [u16],
 ) -> u64
-    ensures { λ r. ⌜ r ≡ mapped-code (mapped-as (map-judged width height attribute (now (steps .entry)) (now (picture .entry)) (now (workspace .entry)) (now (residue .entry)) (now (index .entry)))) ⌝ }
+    ensures { λ r. ⌜ r ≡ verdict-code (map-judged width height attribute (now (steps .entry)) (now (picture .entry)) (now (workspace .entry)) (now (residue .entry)) (now (index .entry))) ⌝ }
     ensures { λ _. ⌜ now (workspace .exit) ≡ call-workspace (map-judged width height attribute (now (steps .entry)) (now (picture .entry)) (now (workspace .entry)) (now (residue .entry)) (now (index .entry))) width height attribute (now (picture .entry)) (now (workspace .entry)) ⌝ }
     ensures { λ _. ⌜ now (residue .exit) ≡ map-residues width height attribute (now (steps .entry)) (now (picture .entry)) (now (workspace .entry)) (now (residue .entry)) (now (index .entry)) ⌝ }
     ensures { λ _. ⌜ now (index .exit) ≡ map-indices width height attribute (now (steps .entry)) (now (picture .entry)) (now (workspace .entry)) (now (residue .entry)) (now (index .entry)) ⌝ }
@@ -130,7 +128,7 @@ pub extern "C" fn teldruf_map(
         residue,
         index,
     ) {
-        residues::Mapped::Done => 0,
-        residues::Mapped::Refused(cause) => refused(cause),
+        calls::Verdict::Accepted => 0,
+        calls::Verdict::Refused(cause) => refused(cause),
     }
 }
