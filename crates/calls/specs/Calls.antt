@@ -2,10 +2,11 @@
 -- a refused call leaves it as it was.
 use Prim.Native.Nat.{ℕ, _*_}
 use mathlib.Core.List.{List}
-use lib.ListN.{length, getD}
+use lib.ListN.{length}
 use Rattle.sets.specs.Sets.{table}
 use Rattle.grid.specs.Neighbours.{edge-neighbours}
 use Rattle.grid.specs.Attributes.{attribute}
+pub use Rattle.grid.specs.Greys.{grey}
 use Rattle.opening.specs.Opening.{opened}
 use Rattle.opening.specs.Residue.{residue-at, index-at}
 use Rattle.tree.specs.Tree.{workspace, number-of-nodes}
@@ -15,10 +16,6 @@ use Rattle.calls.specs.declared.Verdict.{Verdict}
 use Rattle.calls.specs.declared.Verdict.the-variants.{Accepted, Refused}
 use Rattle.calls.specs.declared.Built.{Built}
 use Rattle.calls.specs.declared.Built.the-variants.{Nodes, Refused as Not-built}
-
--- the grey of a position
-abbrev pub grey : List ℕ → ℕ → ℕ
-grey picture p = getD picture p 0
 
 -- the new grey of a position: the opening at the threshold t of the attribute a, in a picture of width w and height h with the greys g
 abbrev pub opening : ℕ → ℕ → ℕ → ℕ → (ℕ → ℕ) → ℕ → ℕ

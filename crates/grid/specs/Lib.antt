@@ -1,2 +1,3 @@
 pub mod Neighbours
 pub mod Attributes
+pub mod Greys

@@ -7,10 +7,11 @@ use Rattle.grid.specs.Attributes.{extent, side, attribute}
 use Rattle.opening.specs.Opening.{component-at, least-grey, highest-above, opened-by}
 use Rattle.opening.specs.Residue.{falls-from, largest, last-place, largest-place, residue-at, index-at}
 use Rattle.tree.specs.Tree.{lowest-own, representative, node-below, parent-representative, is-representative, parent-word, attribute-word, number-of-nodes, parents, attributes}
+use Rattle.calls.specs.Calls.{opened-picture, residue-map, index-map}
 use Rattle.small_pictures.specs.Table.{Starred}
 
 pub starred : Starred
-unfolding some-in count table-from table gather seed grow grown component extent side attribute component-at least-grey highest-above opened-by falls-from largest last-place largest-place lowest-own representative node-below parent-representative is-representative parent-word attribute-word number-of-nodes parents attributes residue-at index-at
+unfolding some-in count table-from table gather seed grow grown component extent side attribute component-at least-grey highest-above opened-by falls-from largest last-place largest-place lowest-own representative node-below parent-representative is-representative parent-word attribute-word number-of-nodes parents attributes residue-at index-at opened-picture residue-map index-map
 starred =
     record {
       record-parents = refl;
