@@ -47,16 +47,15 @@ module _ (low count t : ℕ) (ts : List ℕ) where
   rest-good-falls h = rw (le-ltb low t h, and-false)
 
   module _ (above : low < t) where
-    rest-good-high : 1048577 < t → false ≡ rest-good low count (t ∷ ts)
-    unfolding rest-good rising all-good threshold-good
-    rest-good-high h = rw (lt-ltb low t above, lt-leb t 1048577 h, and-false, and-false, and-false)
+    rest-good-outside : threshold-good t ≡ false → false ≡ rest-good low count (t ∷ ts)
+    unfolding rest-good rising all-good
+    rest-good-outside h = rw (lt-ltb low t above, h, and-false, and-false)
 
-    rest-good-more : t ≤ 1048577 → rest-good low count (t ∷ ts) ≡ rest-good t (count + 1) ts
-    unfolding rest-good rising all-good threshold-good
+    rest-good-more : threshold-good t ≡ true → rest-good low count (t ∷ ts) ≡ rest-good t (count + 1) ts
+    unfolding rest-good rising all-good
     rest-good-more h =
-        let some : 1 ≤ t = omega arith in
         let e : count + suc (length ts) ≡ count + 1 + length ts = omega arith in
-        rw (lt-ltb low t above, le-leb 1 t some, le-leb t 1048577 h, e)
+        rw (lt-ltb low t above, h, e)
 
 -- one line of the step lines
 module _ {file : List ℕ} {at end : ℕ} (next : NextLine file at end) where
@@ -108,10 +107,10 @@ module _ {file : List ℕ} {from at low count : ℕ} (so-far : JudgedSoFar file 
     judged-falls h = rest-good-falls low count t (thresholds (lines (drop (end + 1) file))) h ∙ rest-here
 
     module _ (above : low < t) where
-      pub judged-high : 1048577 < t → false ≡ steps-good (thresholds (lines (drop from file)))
-      judged-high h = rest-good-high low count t (thresholds (lines (drop (end + 1) file))) above h ∙ rest-here
+      pub judged-outside : threshold-good t ≡ false → false ≡ steps-good (thresholds (lines (drop from file)))
+      judged-outside h = rest-good-outside low count t (thresholds (lines (drop (end + 1) file))) above h ∙ rest-here
 
-      pub judged-more : (count ≡ 256 → ⊥) → t ≤ 1048577 → JudgedSoFar file from (end + 1) t (count + 1)
+      pub judged-more : (count ≡ 256 → ⊥) → threshold-good t ≡ true → JudgedSoFar file from (end + 1) t (count + 1)
       judged-more n h =
           record {
             steps = steps-after-line next (so-far .steps);

@@ -36,7 +36,7 @@ fn good_steps(file: &[u8], from: usize) -> bool
         if t <= low {
             return false;
         }
-        if 1048577 < t {
+        if !calls::threshold_good(t) {
             return false;
         }
         low = t;

@@ -1,11 +1,13 @@
 -- `steps::good_steps` meets its contract: at the loop's head the steps before `at` are good, `count` of them, and rise to `low`. Assumes nothing.
+use borrow.Author.Tests.{not-true, not-false}
+use mathlib.Core.Path.{sym, _∙_}
 use Prim.Native.Nat.{_-_}
 use native.Mathlib.Omega.{arith}
 use lib.ListN.{length}
 use denote.Ref.{now}
 use borrow.Author.Needs.{needs}
 use Rattle.steps.proofs.Splitting.{NextLine, next-line}
-use Rattle.steps.proofs.Judging.{JudgedSoFar, judged-none, judged-full, judged-falls, judged-high, judged-more, judged-end, step-here}
+use Rattle.steps.proofs.Judging.{JudgedSoFar, judged-none, judged-full, judged-falls, judged-outside, judged-more, judged-end, step-here}
 use Rattle.steps.proofs.good_steps.Statement.{statement}
 use Rattle.steps.proofs.good_steps.Tie as tie
 
@@ -45,22 +47,25 @@ returns-2 : tie.Need-returns-2 Inv-loop μ-loop
 returns-2 c =
     judged-falls (c .before .before .before .before .before .before .loop .inv) (next (c .before .before .before .before)) _ (c .before .before .threshold .ensures) (c .if2 .taken)
 
+threshold-good-requires : tie.Need-threshold-good-requires Inv-loop μ-loop
+threshold-good-requires c κs = search needs
+
 returns-3 : tie.Need-returns-3 Inv-loop μ-loop
 returns-3 c =
-    judged-high (c .before .before .before .before .before .before .before .loop .inv) (next (c .before .before .before .before .before)) _ (c .before .before .before .threshold .ensures) (c .before .if2 .left) (c .if3 .taken)
+    judged-outside (c .before .before .before .before .before .before .before .before .loop .inv) (next (c .before .before .before .before .before .before)) _ (c .before .before .before .before .threshold .ensures) (c .before .before .if2 .left) (sym (c .before .threshold-good .ensures) ∙ not-true _ (c .if3 .taken))
 
 add-count : tie.Need-add-count Inv-loop μ-loop
-add-count c = omega (arith, c .before .before .before .before .before .before .before .loop .inv .few)
+add-count c = omega (arith, c .before .before .before .before .before .before .before .before .loop .inv .few)
 
 add-at : tie.Need-add-at Inv-loop μ-loop
-add-at c = omega (arith, next (c .before .before .before .before .before) .ends)
+add-at c = omega (arith, next (c .before .before .before .before .before .before) .ends)
 
 loop-less : tie.Need-loop-less Inv-loop μ-loop
-loop-less c = omega (arith, next (c .before .before .before .before .before) .starts)
+loop-less c = omega (arith, next (c .before .before .before .before .before .before) .starts)
 
 loop-again : tie.Need-loop-again Inv-loop μ-loop
 loop-again c =
-    judged-more (c .before .before .before .before .before .before .before .loop .inv) (next (c .before .before .before .before .before)) _ (c .before .before .before .threshold .ensures) (c .before .if2 .left) (c .before .before .if1 .left) (c .if3 .left)
+    judged-more (c .before .before .before .before .before .before .before .before .loop .inv) (next (c .before .before .before .before .before .before)) _ (c .before .before .before .before .threshold .ensures) (c .before .before .if2 .left) (c .before .before .before .if1 .left) (sym (c .before .threshold-good .ensures) ∙ not-false _ (c .if3 .left))
 
 returns-4 : tie.Need-returns-4 Inv-loop μ-loop
 returns-4 c = judged-end (c .before .loop .inv) (c .loop-test .left)
@@ -79,6 +84,7 @@ good-steps-spec =
     threshold-requires
     returns
     returns-2
+    threshold-good-requires
     returns-3
     add-count
     add-at
