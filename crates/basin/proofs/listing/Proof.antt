@@ -5,10 +5,6 @@ use lib.ListN.{length}
 use borrow.Author.Needs.{needs}
 use Rattle.basin.proofs.listing.Statement.{statement}
 use Rattle.basin.proofs.listing.Tie as tie
-use Rattle.basin.proofs.listing.Reads as reads
-use Rattle.basin.proofs.listing.Lts as lts
-use Rattle.basin.proofs.pixel.Reads as pixel-reads
-use Rattle.basin.proofs.text.Reads as text-reads
 
 abbrev Inv-loop : tie.InvT-loop
 Inv-loop picture width residue index w p₀ p = (p ≤ length picture) × (w ≡ width)

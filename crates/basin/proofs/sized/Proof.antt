@@ -4,17 +4,10 @@ use mathlib.Core.Path.{_∙_, sym}
 use lib.ListN.{length, take, drop}
 use denote.Ref.{now}
 use Rattle.basin.proofs.Lending.{taken, returned, done-wide}
--- `basin::sized` is safe and ends: a call that is done had sides that fit. Assumes nothing.
-use lib.ListN.{length, take, drop}
 use borrow.Author.Needs.{needs}
 use native.Mathlib.Omega.{arith}
 use Rattle.basin.proofs.sized.Statement.{statement}
 use Rattle.basin.proofs.sized.Tie as tie
-use Rattle.basin.proofs.sized.Reads as reads
-use Rattle.basin.proofs.sized.Lts as lts
-use Rattle.basin.proofs.listing.Reads as listing-reads
-use Rattle.basin.proofs.refused.Reads as refused-reads
-use Rattle.residues.proofs.map.Reads as map-reads
 
 mul-map : tie.Need-mul-map
 mul-map c = search needs

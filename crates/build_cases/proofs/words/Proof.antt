@@ -4,11 +4,6 @@ use lib.ListN.{length}
 use borrow.Author.Needs.{needs}
 use Rattle.build_cases.proofs.words.Statement.{statement}
 use Rattle.build_cases.proofs.words.Tie as tie
-use Rattle.build_cases.proofs.words.Reads as reads
-use Rattle.build_cases.proofs.words.Lts as lts
-use Rattle.build_cases.proofs.number.Reads as number-reads
-use Rattle.build_cases.proofs.of_word.Reads as of-word-reads
-use Rattle.build_cases.proofs.text.Reads as text-reads
 
 abbrev Inv-loop : tie.InvT-loop
 Inv-loop s i₀ t4 i = i ≤ length s

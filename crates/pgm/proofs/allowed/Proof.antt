@@ -2,8 +2,6 @@
 use borrow.Author.Tests.{le-leb, lt-leb}
 use Rattle.pgm.proofs.allowed.Statement.{statement}
 use Rattle.pgm.proofs.allowed.Tie as tie
-use Rattle.pgm.proofs.allowed.Reads as reads
-use Rattle.pgm.proofs.allowed.Lts as lts
 
 returns : tie.Need-returns
 returns c = simp (lt-leb _ _ (c .if1 .taken))

@@ -1,10 +1,8 @@
-use Rattle.pgm.proofs.Judging.{none-follow}
 -- `pgm::follow` meets its contract: past the end no byte follows. Assumes nothing.
+use Rattle.pgm.proofs.Judging.{none-follow}
 use borrow.Author.Needs.{needs}
 use Rattle.pgm.proofs.follow.Statement.{statement}
 use Rattle.pgm.proofs.follow.Tie as tie
-use Rattle.pgm.proofs.follow.Reads as reads
-use Rattle.pgm.proofs.follow.Lts as lts
 
 returns : tie.Need-returns
 returns c = none-follow _ _ _ (c .if1 .taken) (c .before .pre)

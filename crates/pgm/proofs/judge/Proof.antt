@@ -1,5 +1,5 @@
-use Rattle.pgm.proofs.Judging.{judged-broken, some-pixels, starts-within}
 -- `pgm::judge` meets its contract: the first test that fails decides. Assumes nothing.
+use Rattle.pgm.proofs.Judging.{judged-broken, some-pixels, starts-within}
 use mathlib.Core.Path.{_∙_, sym, ap}
 use lib.Dec.{eqb}
 use denote.Ref.{now}
@@ -11,13 +11,6 @@ use Rattle.pgm.proofs.Judging.{judged-maximum, judged-sides, judged-len
 use borrow.Author.Needs.{needs}
 use Rattle.pgm.proofs.judge.Statement.{statement}
 use Rattle.pgm.proofs.judge.Tie as tie
-use Rattle.pgm.proofs.judge.Reads as reads
-use Rattle.pgm.proofs.judge.Lts as lts
-use Rattle.causes.proofs.fit.Reads as fit-reads
-use Rattle.pgm.proofs.allowed.Reads as allowed-reads
-use Rattle.pgm.proofs.follow.Reads as follow-reads
-use Rattle.pgm.proofs.pixels.Reads as pixels-reads
-use Rattle.pgm.proofs.samples.most.Reads as most-reads
 
 enum-known-found : tie.Need-enum-known-found
 enum-known-found c = search needs

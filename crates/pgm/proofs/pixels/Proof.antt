@@ -4,8 +4,6 @@ use borrow.Author.Needs.{needs}
 use native.Mathlib.Omega.{arith}
 use Rattle.pgm.proofs.pixels.Statement.{statement}
 use Rattle.pgm.proofs.pixels.Tie as tie
-use Rattle.pgm.proofs.pixels.Reads as reads
-use Rattle.pgm.proofs.pixels.Lts as lts
 
 mul-result : tie.Need-mul-result
 mul-result c = omega (arith, bounded (c .args .width) (c .args .height) (c .pre))

@@ -6,9 +6,6 @@ use borrow.Author.Needs.{needs}
 use native.Mathlib.Omega.{arith}
 use Rattle.pgm.proofs.put_field.Statement.{statement}
 use Rattle.pgm.proofs.put_field.Tie as tie
-use Rattle.pgm.proofs.put_field.Reads as reads
-use Rattle.pgm.proofs.put_field.Lts as lts
-use Rattle.pgm.proofs.digits.put_number.Reads as put-number-reads
 
 slice-write-buffer : tie.Need-slice-write-buffer
 slice-write-buffer c = search needs

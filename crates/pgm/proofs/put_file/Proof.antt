@@ -8,10 +8,6 @@ use borrow.Author.Needs.{needs}
 use native.Mathlib.Omega.{arith}
 use Rattle.pgm.proofs.put_file.Statement.{statement}
 use Rattle.pgm.proofs.put_file.Tie as tie
-use Rattle.pgm.proofs.put_file.Reads as reads
-use Rattle.pgm.proofs.put_file.Lts as lts
-use Rattle.pgm.proofs.put_field.Reads as put-field-reads
-use Rattle.pgm.proofs.samples.put_samples.Reads as put-samples-reads
 
 array-read-buffer : tie.Need-array-read-buffer
 array-read-buffer c = search needs

@@ -4,11 +4,6 @@ use Rattle.pgm.proofs.Judging.{accepted, raster-refused, raster-within,
 use borrow.Author.Needs.{needs}
 use Rattle.pgm.proofs.raster.Statement.{statement}
 use Rattle.pgm.proofs.raster.Tie as tie
-use Rattle.pgm.proofs.raster.Reads as reads
-use Rattle.pgm.proofs.raster.Lts as lts
-use Rattle.pgm.proofs.pixels.Reads as pixels-reads
-use Rattle.pgm.proofs.read.Reads as read-reads
-use Rattle.pgm.proofs.reader.raster_from.Reads as raster-from-reads
 
 read-requires : tie.Need-read-requires
 read-requires c κs = search needs

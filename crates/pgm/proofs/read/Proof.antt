@@ -5,11 +5,6 @@ use Rattle.pgm.proofs.Judging.{read-signed, read-unsigned}
 use borrow.Author.Needs.{needs}
 use Rattle.pgm.proofs.read.Statement.{statement}
 use Rattle.pgm.proofs.read.Tie as tie
-use Rattle.pgm.proofs.read.Reads as reads
-use Rattle.pgm.proofs.read.Lts as lts
-use Rattle.pgm.proofs.header.has_sign.Reads as has-sign-reads
-use Rattle.pgm.proofs.reader.header_of.Reads as header-of-reads
-use Rattle.pgm.proofs.judge.Reads as judge-reads
 
 has-sign-requires : tie.Need-has-sign-requires
 has-sign-requires c κs = search needs

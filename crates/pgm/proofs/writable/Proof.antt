@@ -10,13 +10,6 @@ use borrow.Author.Needs.{needs}
 use native.Mathlib.Omega.{arith}
 use Rattle.pgm.proofs.writable.Statement.{statement}
 use Rattle.pgm.proofs.writable.Tie as tie
-use Rattle.pgm.proofs.writable.Reads as reads
-use Rattle.pgm.proofs.writable.Lts as lts
-use Rattle.causes.proofs.fit.Reads as fit-reads
-use Rattle.pgm.proofs.allowed.Reads as allowed-reads
-use Rattle.pgm.proofs.digits.digit_total.Reads as digit-total-reads
-use Rattle.pgm.proofs.pixels.Reads as pixels-reads
-use Rattle.pgm.proofs.samples.most.Reads as most-reads
 
 fit-requires : tie.Need-fit-requires
 fit-requires c κs = search needs

@@ -1,14 +1,10 @@
-use Rattle.pgm.proofs.Judging.{writable-is, fields-fit, buffer-written, buffer-kept}
 -- `pgm::write` meets its contract. Assumes nothing.
+use Rattle.pgm.proofs.Judging.{writable-is, fields-fit, buffer-written, buffer-kept}
 use mathlib.Core.Path.{_∙_, sym, ap}
 use Rattle.pgm.specs.Write.{written-number}
 use borrow.Author.Needs.{needs}
 use Rattle.pgm.proofs.write.Statement.{statement}
 use Rattle.pgm.proofs.write.Tie as tie
-use Rattle.pgm.proofs.write.Reads as reads
-use Rattle.pgm.proofs.write.Lts as lts
-use Rattle.pgm.proofs.put_file.Reads as put-file-reads
-use Rattle.pgm.proofs.writable.Reads as writable-reads
 
 writable-requires : tie.Need-writable-requires
 writable-requires c κs = search needs

@@ -4,12 +4,6 @@ use lib.ListN.{length}
 use borrow.Author.Needs.{needs}
 use Rattle.pgm_cases.proofs.bytes.Statement.{statement}
 use Rattle.pgm_cases.proofs.bytes.Tie as tie
-use Rattle.pgm_cases.proofs.bytes.Reads as reads
-use Rattle.pgm_cases.proofs.bytes.Lts as lts
-use Rattle.pgm_cases.proofs.field.Reads as field-reads
-use Rattle.pgm_cases.proofs.number.Reads as number-reads
-use Rattle.pgm_cases.proofs.text.Reads as text-reads
-use Rattle.pgm_cases.proofs.wide.Reads as wide-reads
 
 abbrev Inv-loop : tie.InvT-loop
 Inv-loop s i₀ t4 i = i ≤ length s

@@ -4,10 +4,6 @@ use Rattle.teldruf.specs.Codes.{built-code}
 use borrow.Author.Needs.{needs}
 use Rattle.teldruf.proofs.teldruf_build.Statement.{statement}
 use Rattle.teldruf.proofs.teldruf_build.Tie as tie
-use Rattle.teldruf.proofs.teldruf_build.Reads as reads
-use Rattle.teldruf.proofs.teldruf_build.Lts as lts
-use Rattle.max_tree.proofs.build.Reads as build-reads
-use Rattle.teldruf.proofs.refused.Reads as refused-reads
 
 build-requires : tie.Need-build-requires
 build-requires c κs = search needs

@@ -4,10 +4,6 @@ use Rattle.teldruf.specs.Codes.{verdict-code}
 use borrow.Author.Needs.{needs}
 use Rattle.teldruf.proofs.teldruf_map.Statement.{statement}
 use Rattle.teldruf.proofs.teldruf_map.Tie as tie
-use Rattle.teldruf.proofs.teldruf_map.Reads as reads
-use Rattle.teldruf.proofs.teldruf_map.Lts as lts
-use Rattle.residues.proofs.map.Reads as map-reads
-use Rattle.teldruf.proofs.refused.Reads as refused-reads
 
 map-requires : tie.Need-map-requires
 map-requires c κs = search needs

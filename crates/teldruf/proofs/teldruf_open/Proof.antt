@@ -4,10 +4,6 @@ use Rattle.teldruf.specs.Codes.{verdict-code}
 use borrow.Author.Needs.{needs}
 use Rattle.teldruf.proofs.teldruf_open.Statement.{statement}
 use Rattle.teldruf.proofs.teldruf_open.Tie as tie
-use Rattle.teldruf.proofs.teldruf_open.Reads as reads
-use Rattle.teldruf.proofs.teldruf_open.Lts as lts
-use Rattle.openings.proofs.open.Reads as open-reads
-use Rattle.teldruf.proofs.refused.Reads as refused-reads
 
 open-requires : tie.Need-open-requires
 open-requires c κs = search needs

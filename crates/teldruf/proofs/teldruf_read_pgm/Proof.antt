@@ -6,10 +6,6 @@ use Rattle.teldruf.specs.Codes.{found-code, head-with}
 use borrow.Author.Needs.{needs}
 use Rattle.teldruf.proofs.teldruf_read_pgm.Statement.{statement}
 use Rattle.teldruf.proofs.teldruf_read_pgm.Tie as tie
-use Rattle.teldruf.proofs.teldruf_read_pgm.Reads as reads
-use Rattle.teldruf.proofs.teldruf_read_pgm.Lts as lts
-use Rattle.pgm.proofs.read.Reads as read-reads
-use Rattle.teldruf.proofs.refused.Reads as refused-reads
 
 read-requires : tie.Need-read-requires
 read-requires c κs = search needs

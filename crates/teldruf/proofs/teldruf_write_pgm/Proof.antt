@@ -4,10 +4,6 @@ use Rattle.teldruf.specs.Codes.{written-code}
 use borrow.Author.Needs.{needs}
 use Rattle.teldruf.proofs.teldruf_write_pgm.Statement.{statement}
 use Rattle.teldruf.proofs.teldruf_write_pgm.Tie as tie
-use Rattle.teldruf.proofs.teldruf_write_pgm.Reads as reads
-use Rattle.teldruf.proofs.teldruf_write_pgm.Lts as lts
-use Rattle.pgm.proofs.write.Reads as write-reads
-use Rattle.teldruf.proofs.refused.Reads as refused-reads
 
 write-requires : tie.Need-write-requires
 write-requires c κs = search needs

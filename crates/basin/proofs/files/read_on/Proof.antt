@@ -6,10 +6,6 @@ use borrow.Author.Needs.{needs}
 use native.Mathlib.Omega.{arith}
 use Rattle.basin.proofs.files.read_on.Statement.{statement}
 use Rattle.basin.proofs.files.read_on.Tie as tie
-use Rattle.basin.proofs.files.read_on.Reads as reads
-use Rattle.basin.proofs.files.read_on.Lts as lts
-use Rattle.io.proofs.count.Reads as count-reads
-use Rattle.libc.proofs.read.Reads as read-reads
 
 abbrev Inv-loop : tie.InvT-loop
 Inv-loop fd buffer₀ done₀ buffer done = (done ≤ length buffer) × (length buffer ≡ length buffer₀)

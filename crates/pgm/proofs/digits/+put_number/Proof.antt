@@ -3,7 +3,6 @@ use Prim.Native.Nat.{ℕ, _<_}
 use lib.ListN.{length-set}
 use Rattle.pgm.proofs.Decimals.{length-short, length-long, store-short, store-long}
 use native.Mathlib.Omega.{arith}
-use Prim.Native.Nat.{ℕ, _<_}
 use borrow.Fn.Kinds.{In}
 use borrow.Fn.PlainCycle.{Measures, is, falls, and}
 use Rattle.pgm.proofs.digits.put_number.Reads as put-number

@@ -1,8 +1,6 @@
 use borrow.Author.Tests.{eq-eqb, ne-eqb}
 use Rattle.pgm.proofs.header.ends_comment.Statement.{statement}
 use Rattle.pgm.proofs.header.ends_comment.Tie as tie
-use Rattle.pgm.proofs.header.ends_comment.Reads as reads
-use Rattle.pgm.proofs.header.ends_comment.Lts as lts
 
 -- src/header.rt:60:1
 returns : tie.Need-returns

@@ -2,8 +2,6 @@
 use borrow.Author.Tests.{eq-eqb, ne-eqb}
 use Rattle.pgm.proofs.header.finished.Statement.{statement}
 use Rattle.pgm.proofs.header.finished.Tie as tie
-use Rattle.pgm.proofs.header.finished.Reads as reads
-use Rattle.pgm.proofs.header.finished.Lts as lts
 
 returns : tie.Need-returns
 returns c = simp (eq-eqb _ _ (c .if1 .taken))

@@ -10,10 +10,6 @@ use Rattle.pgm.specs.Header.{gap-length}
 use Rattle.pgm.proofs.Scan.{gap-past-end, gap-white, gap-comment, gap-digit, gap-foreign, gap-comment-on, gap-comment-end}
 use Rattle.pgm.proofs.header.gap_end.Statement.{statement}
 use Rattle.pgm.proofs.header.gap_end.Tie as tie
-use Rattle.pgm.proofs.header.gap_end.Reads as reads
-use Rattle.pgm.proofs.header.gap_end.Lts as lts
-use Rattle.pgm.proofs.header.sort.Reads as sort-reads
-use Rattle.pgm.proofs.header.ends_comment.Reads as ends-comment-reads
 
 abbrev Inv-loop : tie.InvT-loop
 Inv-loop file from at₀ at =

@@ -5,8 +5,6 @@ use borrow.Author.Needs.{needs}
 use borrow.Author.Tests.{ne-eqb, le-leb, lt-leb}
 use Rattle.pgm.proofs.header.has_sign.Statement.{statement}
 use Rattle.pgm.proofs.header.has_sign.Tie as tie
-use Rattle.pgm.proofs.header.has_sign.Reads as reads
-use Rattle.pgm.proofs.header.has_sign.Lts as lts
 
 returns : tie.Need-returns
 returns c = simp (lt-leb _ _ (c .if1 .taken))

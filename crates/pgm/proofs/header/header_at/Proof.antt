@@ -1,5 +1,5 @@
-use Rattle.pgm.proofs.Scan.{white-below}
 -- `pgm::header::header_at` meets its contract: each answer of `part_at` decides how the definition goes on. Assumes nothing.
+use Rattle.pgm.proofs.Scan.{white-below}
 use mathlib.Core.Path.{_∙_, sym}
 use denote.Ref.{now}
 use Rattle.pgm.proofs.Scan.{no-width, no-height, no-maximum, no-last-white, whole-header}
@@ -7,10 +7,6 @@ use borrow.Author.Needs.{needs}
 use native.Mathlib.Omega.{arith}
 use Rattle.pgm.proofs.header.header_at.Statement.{statement}
 use Rattle.pgm.proofs.header.header_at.Tie as tie
-use Rattle.pgm.proofs.header.header_at.Reads as reads
-use Rattle.pgm.proofs.header.header_at.Lts as lts
-use Rattle.pgm.proofs.header.part_at.Reads as part-at-reads
-use Rattle.pgm.proofs.header.white_at.Reads as white-at-reads
 
 part-at-requires : tie.Need-part-at-requires
 part-at-requires c κs = search needs

@@ -10,11 +10,6 @@ use borrow.Author.Needs.{needs}
 use native.Mathlib.Omega.{arith}
 use Rattle.pgm.proofs.header.number_at.Statement.{statement}
 use Rattle.pgm.proofs.header.number_at.Tie as tie
-use Rattle.pgm.proofs.header.number_at.Reads as reads
-use Rattle.pgm.proofs.header.number_at.Lts as lts
-use Rattle.pgm.proofs.header.finished.Reads as finished-reads
-use Rattle.pgm.proofs.header.is_digit.Reads as is-digit-reads
-use Rattle.pgm.proofs.header.sort.Reads as sort-reads
 
 abbrev Inv-loop : tie.InvT-loop
 Inv-loop file from at₀ value₀ count₀ at value count = Reading file from at value count

@@ -4,11 +4,6 @@ use Rattle.pgm.proofs.Scan.{part-after-gap, part-without-gap}
 use borrow.Author.Needs.{needs}
 use Rattle.pgm.proofs.header.part_at.Statement.{statement}
 use Rattle.pgm.proofs.header.part_at.Tie as tie
-use Rattle.pgm.proofs.header.part_at.Reads as reads
-use Rattle.pgm.proofs.header.part_at.Lts as lts
-use Rattle.pgm.proofs.header.gap_end.Reads as gap-end-reads
-use Rattle.pgm.proofs.header.number_at.Reads as number-at-reads
-use Rattle.pgm.proofs.header.white_at.Reads as white-at-reads
 
 white-at-requires : tie.Need-white-at-requires
 white-at-requires c κs = search needs

@@ -5,8 +5,6 @@ use mathlib.Core.Logic.{inl, inr}
 use Rattle.pgm.proofs.Moves.{white-9-10, white-13-32, comment-35, digit-48-57, foreign}
 use Rattle.pgm.proofs.header.sort.Statement.{statement}
 use Rattle.pgm.proofs.header.sort.Tie as tie
-use Rattle.pgm.proofs.header.sort.Reads as reads
-use Rattle.pgm.proofs.header.sort.Lts as lts
 
 returns : tie.Need-returns
 returns c = comment-35 _ (c .match .keys2)

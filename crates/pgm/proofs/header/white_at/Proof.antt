@@ -5,10 +5,6 @@ use Rattle.pgm.specs.Bytes.{white-move}
 use borrow.Author.Needs.{needs}
 use Rattle.pgm.proofs.header.white_at.Statement.{statement}
 use Rattle.pgm.proofs.header.white_at.Tie as tie
-use Rattle.pgm.proofs.header.white_at.Reads as reads
-use Rattle.pgm.proofs.header.white_at.Lts as lts
-use Rattle.pgm.proofs.header.is_white.Reads as is-white-reads
-use Rattle.pgm.proofs.header.sort.Reads as sort-reads
 
 returns : tie.Need-returns
 returns c = simp (le-ltb _ _ (c .if1 .taken))

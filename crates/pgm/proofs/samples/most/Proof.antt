@@ -8,8 +8,6 @@ use borrow.Author.Needs.{needs}
 use native.Mathlib.Omega.{arith}
 use Rattle.pgm.proofs.samples.most.Statement.{statement}
 use Rattle.pgm.proofs.samples.most.Tie as tie
-use Rattle.pgm.proofs.samples.most.Reads as reads
-use Rattle.pgm.proofs.samples.most.Lts as lts
 
 abbrev Inv-loop : tie.InvT-loop
 Inv-loop samples best₀ i₀ best i = LargestSoFar samples i best

@@ -5,8 +5,6 @@ use Rattle.pgm.proofs.Stores.{StoredSoFar, stored-none, stored-length, 
 use native.Mathlib.Omega.{arith}
 use Rattle.pgm.proofs.samples.put_samples.Statement.{statement}
 use Rattle.pgm.proofs.samples.put_samples.Tie as tie
-use Rattle.pgm.proofs.samples.put_samples.Reads as reads
-use Rattle.pgm.proofs.samples.put_samples.Lts as lts
 
 abbrev Inv-loop : tie.InvT-loop
 Inv-loop buffer₀ at samples i₀ buffer i = StoredSoFar buffer₀ at samples i buffer
