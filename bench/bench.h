@@ -1,4 +1,5 @@
-/* What the parts of the benchmark share. The workspace is the library's: 6n words, parents, attributes, order, and scratch. */
+/* What the parts of the benchmark share. The workspace is the library's: 6n words, parents, attributes, the list of the
+   representatives, and scratch. */
 #ifndef BENCH_H
 #define BENCH_H
 
@@ -18,7 +19,7 @@ int picture_make(picture_t *picture, const char *name, uint32_t width, uint32_t 
 
 /*
  * Two ways to a forest: each pixel's parent word is the root of its node, a root's the root of the parent node, the last root's
- * its own; part 3 holds the pixels from dark to bright.
+ * its own; parts 3 to 6 are theirs to use.
  */
 void flood(const picture_t *picture, uint32_t *ws);
 void join(const picture_t *picture, uint32_t *ws);
