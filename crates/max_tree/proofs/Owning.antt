@@ -19,12 +19,13 @@ use Rattle.tree.specs.Forest.{lowest}
 use Rattle.tree.proofs.Relabel.{low-le, low-root}
 use Rattle.flood.specs.Levels.{grey}
 use Rattle.flood.proofs.Counts.{equal-or-not, bit, on, off}
+use Rattle.flood.proofs.Tables.{count-next}
 use Rattle.max_tree.specs.Accumulators.{nothing, single, combined, gathered}
 use Rattle.max_tree.specs.Branches.{owned}
 use Rattle.flood.specs.Flooding.{parent-of}
 use Rattle.max_tree.specs.Passes.{first-of, held-of, root-of, lowest-of, lowest-own-pixel, node-level, Blank, Noting, unmet, noted-at, counted-at, Owned}
 use Rattle.max_tree.proofs.Accumulators.{single-small, gathered-small, bound-small, gathered-with}
-use Rattle.max_tree.proofs.Stores.{count-next, root-within}
+use Rattle.max_tree.proofs.Stores.{root-within}
 
 -- the positions below i with the label r
 abbrev pub below : (ℕ → ℕ) → ℕ → ℕ → Positions

@@ -21,10 +21,10 @@ use Rattle.causes.proofs.Lists.{length-two}
 use Rattle.flood.specs.Levels.{grey}
 use Rattle.flood.specs.Flooding.{parent-of, order-of, Changed}
 use Rattle.flood.proofs.Counts.{equal-or-not}
-use Rattle.flood.proofs.Tables.{stored}
+use Rattle.flood.proofs.Tables.{stored, count-next}
 use Rattle.max_tree.specs.Listing.{Listed}
 use Rattle.max_tree.specs.Passes.{word-of, first-of, held-of, root-of, lowest-of, lowest-own-pixel, node-level, is-first, Writable, first-written, other-written, written-at, tails-at, Recordable, new-parent, new-word, Recorded}
-use Rattle.max_tree.proofs.Stores.{read-one, read-two, read-else, count-next, root-same, root-within}
+use Rattle.max_tree.proofs.Stores.{read-one, read-two, read-else, root-same, root-within}
 use Rattle.max_tree.proofs.Listing.{Listing, listing-none, listing-skip, listing-put, room, listing-end, listing-number}
 
 -- the answer, the workspace and the ends of the runs after the words of one pixel
