@@ -18,8 +18,8 @@ use Rattle.sets.proofs.Gather.{gather-ext, gather-none, first-in-le}
 use Rattle.tree.specs.Forest.{lowest}
 use Rattle.tree.proofs.Relabel.{low-le, low-root}
 use Rattle.flood.specs.Levels.{grey}
-use Rattle.flood.proofs.Counts.{equal-or-not, bit, on, off}
-use Rattle.flood.proofs.Tables.{count-next}
+use Rattle.flood.proofs.Counts.{equal-or-not, bit, off}
+use Rattle.flood.proofs.Tables.{count-next, counts-more}
 use Rattle.max_tree.specs.Accumulators.{nothing, single, combined, gathered}
 use Rattle.max_tree.specs.Branches.{owned}
 use Rattle.flood.specs.Flooding.{parent-of}
@@ -292,18 +292,10 @@ module _ (w a : ℕ) (picture ws₀ : List ℕ) (start : Blank w a picture ws₀
       counts₂ : (l : ℕ) → l < 256 → getD (set counts (grey picture i) (getD counts (grey picture i) 0 + 1)) l 0 ≡ count (i + 1) (λ (q : ℕ). eqb (node-level picture ws₀ q) l)
       counts₂ l c =
           let at : node-level picture ws₀ i ≡ grey picture i = level-first (sym fresh ∙ e) in
-          let next : count (i + 1) (λ (q : ℕ). eqb (node-level picture ws₀ q) l) ≡ bit (eqb (node-level picture ws₀ i) l) + count i (λ (q : ℕ). eqb (node-level picture ws₀ q) l) =
-          count-next i (λ (q : ℕ). eqb (node-level picture ws₀ q) l) in
-          ⊎-elim
-          (λ z.
-          let one : bit (eqb (node-level picture ws₀ i) l) ≡ 1 = on (eq-eqb (node-level picture ws₀ i) l (at ∙ sym z)) in
-          let up : getD (set counts (grey picture i) (getD counts (grey picture i) 0 + 1)) l 0 ≡ getD counts l 0 + 1 =
-          rw z (getD-set-same counts (grey picture i) (getD counts (grey picture i) 0 + 1) 0 (omega (arith, O .wide, start .bytes i))) in
-          omega (arith, O .nodes l c))
-          (λ ne.
-          let none : bit (eqb (node-level picture ws₀ i) l) ≡ 0 = off (ne-eqb (node-level picture ws₀ i) l (λ z. ne (sym z ∙ at))) in
-          omega (arith, O .nodes l c, getD-set-other counts (grey picture i) l (getD counts (grey picture i) 0 + 1) 0 ne))
-          (equal-or-not l (grey picture i))
+          subst
+          (λ (k : ℕ). getD (set counts k (getD counts k 0 + 1)) l 0 ≡ count (i + 1) (λ (q : ℕ). eqb (node-level picture ws₀ q) l))
+          at
+          (counts-more (node-level picture ws₀) counts i (O .wide) (omega (arith, start .bytes i)) (O .nodes) l c)
 
       met-first : Owning w a picture ws₀ ws₂ (set counts (grey picture i) (getD counts (grey picture i) 0 + 1)) (i + 1)
       met-first =
