@@ -1,5 +1,5 @@
 -- The pass that writes the record, in order of position: what holds when the pixels below q are written, one more of them, and the
--- end. A node's lowest own pixel comes before its root, whose word is read there as it was. Assumes nothing.
+-- end. A node's lowest own pixel comes no later than its root, whose word is read there as it was. Assumes nothing.
 use Prim.Native.Nat.{ℕ, _+_, _*_, _≤_, _<_}
 use mathlib.Core.Bool.{Bool, true, false, cond}
 use mathlib.Core.List.{List}
