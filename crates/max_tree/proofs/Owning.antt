@@ -14,16 +14,18 @@ use borrow.Author.Tests.{eqb-true, eqb-false, eq-eqb, ne-eqb, ltb-true, lt-ltb, 
 use Rattle.sets.specs.Sets.{Positions, count}
 use Rattle.sets.proofs.Tests.{decided, same-truth, and-left, and-right, and-both, or-cases, or-left, or-right}
 use Rattle.sets.proofs.Laws.{count-le}
-use Rattle.sets.proofs.Gather.{gather-ext, gather-none, first-in-le, first-in-holds}
+use Rattle.sets.proofs.Gather.{gather-ext, gather-none, first-in-le}
 use Rattle.tree.specs.Forest.{lowest}
+use Rattle.tree.proofs.Relabel.{low-le, low-root}
 use Rattle.flood.specs.Levels.{grey}
-use Rattle.flood.proofs.Counts.{equal-or-not, bit, on, off}
+use Rattle.flood.proofs.Counts.{equal-or-not, bit, off}
+use Rattle.flood.proofs.Tables.{count-next, counts-more}
 use Rattle.max_tree.specs.Accumulators.{nothing, single, combined, gathered}
 use Rattle.max_tree.specs.Branches.{owned}
 use Rattle.flood.specs.Flooding.{parent-of}
 use Rattle.max_tree.specs.Passes.{first-of, held-of, root-of, lowest-of, lowest-own-pixel, node-level, Blank, Noting, unmet, noted-at, counted-at, Owned}
 use Rattle.max_tree.proofs.Accumulators.{single-small, gathered-small, bound-small, gathered-with}
-use Rattle.max_tree.proofs.Stores.{count-next, root-within}
+use Rattle.max_tree.proofs.Stores.{root-within}
 
 -- the positions below i with the label r
 abbrev pub below : (ℕ → ℕ) → ℕ → ℕ → Positions
@@ -138,28 +140,6 @@ module _ (w a : ℕ) (picture ws₀ : List ℕ) (start : Blank w a picture ws₀
       (start .sized .small)
       (gathered-small a (length picture) (single a w) (below (root-of picture ws₀) i r) (λ q c. single-small a w q (start .short q c))))
 
-  -- the lowest own pixel of the node of x is at or before x, and of the same node
-  lowest-low : (x : ℕ) → x < length picture → lowest-of picture ws₀ (root-of picture ws₀ x) ≤ x
-  unfolding lowest
-  lowest-low x b =
-      first-in-le
-      (length picture)
-      (λ (y : ℕ). eqb (root-of picture ws₀ y) (root-of picture ws₀ x))
-      x
-      b
-      (eq-eqb (root-of picture ws₀ x) (root-of picture ws₀ x) refl)
-
-  lowest-own : (x : ℕ) → x < length picture → root-of picture ws₀ (lowest-of picture ws₀ (root-of picture ws₀ x)) ≡ root-of picture ws₀ x
-  unfolding lowest
-  lowest-own x b =
-      eqb-true
-      (root-of picture ws₀ (lowest-of picture ws₀ (root-of picture ws₀ x)))
-      (root-of picture ws₀ x)
-      (first-in-holds
-      (length picture)
-      (λ (y : ℕ). eqb (root-of picture ws₀ y) (root-of picture ws₀ x))
-      (omega (arith, lowest-low x b)))
-
   -- one pixel more, i, with the node root r: first its accumulator, then the note
   module _ (ws counts : List ℕ) (i r y : ℕ) (b : i < length picture) (O : Owning w a picture ws₀ ws counts i) (is : r ≡ root-of picture ws₀ i) (new : y ≡ combined a (held-of (length picture) ws r) (single a w i)) where
     in-range : r < length picture
@@ -243,9 +223,9 @@ module _ (w a : ℕ) (picture ws₀ : List ℕ) (start : Blank w a picture ws₀
         (⊎-elim
         (λ z. z)
         (λ ne.
-        let before : m < i = omega (arith, lowest-low i b) in
+        let before : m < i = omega (arith, low-le (length picture) (grey picture) (parent-of ws₀) i b) in
         let same : first-of (length picture) ws (root-of picture ws₀ m) ≡ first-of (length picture) ws r =
-        ap (first-of (length picture) ws) (lowest-own i b ∙ sym is) in
+        ap (first-of (length picture) ws) (low-root (length picture) (grey picture) (parent-of ws₀) i b ∙ sym is) in
         absurd (omega (arith, O .first m before .low)))
         (equal-or-not m i)))
         (λ e.
@@ -257,7 +237,7 @@ module _ (w a : ℕ) (picture ws₀ : List ℕ) (start : Blank w a picture ws₀
         ∙ O .none r in-range
         (λ x c f.
         let g : lowest-of picture ws₀ (root-of picture ws₀ x) ≡ m = ap (lowest-of picture ws₀) (f ∙ is) in
-        omega (arith, lowest-low x (omega arith)))))
+        omega (arith, low-le (length picture) (grey picture) (parent-of ws₀) x (omega arith)))))
 
     level-first : lowest-own-pixel picture ws₀ i ≡ true → node-level picture ws₀ i ≡ grey picture i
     level-first e = ap (λ (t : Bool). cond t (grey picture i) 256) e
@@ -292,7 +272,7 @@ module _ (w a : ℕ) (picture ws₀ : List ℕ) (start : Blank w a picture ws₀
           (λ v.
           let g : m ≡ i = eqb-true m i (sym fresh ∙ e) in
           let h : lowest-of picture ws₀ s ≡ m = ap (lowest-of picture ws₀) (z ∙ is) in
-          omega (arith, lowest-low x (omega arith)))
+          omega (arith, low-le (length picture) (grey picture) (parent-of ws₀) x (omega arith)))
           (equal-or-not x i) in
           record { low = omega arith; own = ap (root-of picture ws₀) f ∙ sym is ∙ sym z })
           (λ ne.
@@ -312,18 +292,10 @@ module _ (w a : ℕ) (picture ws₀ : List ℕ) (start : Blank w a picture ws₀
       counts₂ : (l : ℕ) → l < 256 → getD (set counts (grey picture i) (getD counts (grey picture i) 0 + 1)) l 0 ≡ count (i + 1) (λ (q : ℕ). eqb (node-level picture ws₀ q) l)
       counts₂ l c =
           let at : node-level picture ws₀ i ≡ grey picture i = level-first (sym fresh ∙ e) in
-          let next : count (i + 1) (λ (q : ℕ). eqb (node-level picture ws₀ q) l) ≡ bit (eqb (node-level picture ws₀ i) l) + count i (λ (q : ℕ). eqb (node-level picture ws₀ q) l) =
-          count-next i (λ (q : ℕ). eqb (node-level picture ws₀ q) l) in
-          ⊎-elim
-          (λ z.
-          let one : bit (eqb (node-level picture ws₀ i) l) ≡ 1 = on (eq-eqb (node-level picture ws₀ i) l (at ∙ sym z)) in
-          let up : getD (set counts (grey picture i) (getD counts (grey picture i) 0 + 1)) l 0 ≡ getD counts l 0 + 1 =
-          rw z (getD-set-same counts (grey picture i) (getD counts (grey picture i) 0 + 1) 0 (omega (arith, O .wide, start .bytes i))) in
-          omega (arith, O .nodes l c))
-          (λ ne.
-          let none : bit (eqb (node-level picture ws₀ i) l) ≡ 0 = off (ne-eqb (node-level picture ws₀ i) l (λ z. ne (sym z ∙ at))) in
-          omega (arith, O .nodes l c, getD-set-other counts (grey picture i) l (getD counts (grey picture i) 0 + 1) 0 ne))
-          (equal-or-not l (grey picture i))
+          subst
+          (λ (k : ℕ). getD (set counts k (getD counts k 0 + 1)) l 0 ≡ count (i + 1) (λ (q : ℕ). eqb (node-level picture ws₀ q) l))
+          at
+          (counts-more (node-level picture ws₀) counts i (O .wide) (omega (arith, start .bytes i)) (O .nodes) l c)
 
       met-first : Owning w a picture ws₀ ws₂ (set counts (grey picture i) (getD counts (grey picture i) 0 + 1)) (i + 1)
       met-first =
@@ -350,7 +322,7 @@ module _ (w a : ℕ) (picture ws₀ : List ℕ) (start : Blank w a picture ws₀
       before : m < i
       before =
           let ne : m ≡ i → ⊥ = eqb-false m i not-first in
-          omega (arith, lowest-low i b)
+          omega (arith, low-le (length picture) (grey picture) (parent-of ws₀) i b)
 
       first₁ : (x : ℕ) → x < i → First picture ws₀ ws₁ x
       first₁ x c =
@@ -361,7 +333,7 @@ module _ (w a : ℕ) (picture ws₀ : List ℕ) (start : Blank w a picture ws₀
       first-last : First picture ws₀ ws₁ i
       first-last =
           let F : First picture ws₀ ws₁ m = first₁ m before in
-          let z : root-of picture ws₀ m ≡ root-of picture ws₀ i = lowest-own i b in
+          let z : root-of picture ws₀ m ≡ root-of picture ws₀ i = low-root (length picture) (grey picture) (parent-of ws₀) i b in
           let f : first-of (length picture) ws₁ (root-of picture ws₀ m) ≡ first-of (length picture) ws₁ (root-of picture ws₀ i) =
           ap (first-of (length picture) ws₁) z in
           record { low = omega (arith, F .low, before); own = ap (root-of picture ws₀) (sym f) ∙ F .own ∙ z }
@@ -400,7 +372,7 @@ module _ (w a : ℕ) (picture ws₀ : List ℕ) (start : Blank w a picture ws₀
       let F : First picture ws₀ ws q = O .first q b in
       let m : ℕ = lowest-of picture ws₀ (root-of picture ws₀ q) in
       le-antisymm
-      (subst (λ (r : ℕ). first-of (length picture) ws r ≤ m) (lowest-own q b) (O .first m (omega (arith, lowest-low q b)) .low))
+      (subst (λ (r : ℕ). first-of (length picture) ws r ≤ m) (low-root (length picture) (grey picture) (parent-of ws₀) q b) (O .first m (omega (arith, low-le (length picture) (grey picture) (parent-of ws₀) q b)) .low))
       (first-in-le
       (length picture)
       s

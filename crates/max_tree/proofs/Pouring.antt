@@ -111,11 +111,7 @@ module _ (n m : ℕ) (g : ℕ → ℕ) (s : Positions) (ord : ℕ → ℕ) (orde
         let same : g (ord p) ≡ g c = ap g (place-holds c d) in
         ⊎-elim
         (λ k. taken-in i c k d)
-        (λ k.
-        ⊎-elim
-        (λ z. absurd (omega (arith, ap (λ (j : ℕ). g (ord j)) z)))
-        (λ z. absurd (omega (arith, listed-rises order p (i - 1) (omega arith) (omega arith))))
-        (equal-or-not p (i - 1)))
+        (λ k. absurd (omega (arith, listed-rises order p (i - 1) (omega arith) (omega arith))))
         (le-or-lt i p)
 
     taken-darker : (c : ℕ) → g c < g (ord (i - 1)) → taken m ord i c ≡ false

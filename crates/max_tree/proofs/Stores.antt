@@ -1,14 +1,11 @@
--- What two stores to a list do to its entries, a count with one position more, and the node root that is read from the words. Assumes
--- nothing.
-use Prim.Native.Nat.{ℕ, _+_, _<_}
+-- What two stores to a list do to its entries, and the node root that is read from the words. Assumes nothing.
+use Prim.Native.Nat.{ℕ, _<_}
 use mathlib.Core.Bool.{cond}
 use mathlib.Core.List.{List}
-use mathlib.Core.Path.{_≡_, refl, ap, _∙_}
-use native.Mathlib.Numerals.{add-one}
+use mathlib.Core.Path.{_≡_, ap, _∙_}
 use lib.Dec.{eqb}
 use lib.ListN.{getD, length, set, length-set}
 use lib.Seq.{getD-set-same, getD-set-other}
-use Rattle.sets.specs.Sets.{Positions, count}
 use Rattle.opening.proofs.Levels.{cond-case}
 use Rattle.tree.specs.Forest.{node-root}
 use Rattle.flood.specs.Levels.{grey}
@@ -40,8 +37,3 @@ root-within picture ws q b c =
 pub root-same : (picture ws ws₀ : List ℕ) (q : ℕ) → parent-of ws q ≡ parent-of ws₀ q → root-of picture ws q ≡ root-of picture ws₀ q
 unfolding node-root
 root-same picture ws ws₀ q e = ap (λ (p : ℕ). cond (eqb (grey picture p) (grey picture q)) p q) e
-
--- one position more
-pub count-next : (q : ℕ) (s : Positions) → count (q + 1) s ≡ cond (s q) 1 0 + count q s
-unfolding count
-count-next q s = rw add-one refl

@@ -1,5 +1,5 @@
 -- The pass that writes the record, in order of position: what holds when the pixels below q are written, one more of them, and the
--- end. A node's lowest own pixel comes before its root, whose word is read there as it was. Assumes nothing.
+-- end. A node's lowest own pixel comes no later than its root, whose word is read there as it was. Assumes nothing.
 use Prim.Native.Nat.{ℕ, _+_, _*_, _≤_, _<_}
 use mathlib.Core.Bool.{Bool, true, false, cond}
 use mathlib.Core.List.{List}
@@ -21,10 +21,10 @@ use Rattle.causes.proofs.Lists.{length-two}
 use Rattle.flood.specs.Levels.{grey}
 use Rattle.flood.specs.Flooding.{parent-of, order-of, Changed}
 use Rattle.flood.proofs.Counts.{equal-or-not}
-use Rattle.flood.proofs.Tables.{stored}
+use Rattle.flood.proofs.Tables.{stored, count-next}
 use Rattle.max_tree.specs.Listing.{Listed}
 use Rattle.max_tree.specs.Passes.{word-of, first-of, held-of, root-of, lowest-of, lowest-own-pixel, node-level, is-first, Writable, first-written, other-written, written-at, tails-at, Recordable, new-parent, new-word, Recorded}
-use Rattle.max_tree.proofs.Stores.{read-one, read-two, read-else, count-next, root-same, root-within}
+use Rattle.max_tree.proofs.Stores.{read-one, read-two, read-else, root-same, root-within}
 use Rattle.max_tree.proofs.Listing.{Listing, listing-none, listing-skip, listing-put, room, listing-end, listing-number}
 
 -- the answer, the workspace and the ends of the runs after the words of one pixel

@@ -1,5 +1,5 @@
 // The max-tree of a picture: the record that is kept of it in a workspace of 6n words, part 1 the parents, part 2 the attributes, parts
-// 3 to 6 scratch. The flood leaves the nodes' roots and the order of the pixels, and the passes make the record of them.
+// 3 to 6 scratch. The flood leaves parent words only, and the passes make the record of them.
 ghost use mathlib.Core.List.{_++_};
 ghost use mathlib.Core.Path.{_≡_};
 ghost use Prim.Native.Nat.{_*_};

@@ -94,7 +94,7 @@ fn write_pixel(picture: &[u8], q: usize, ws: &mut [u32], tails: &mut [usize; 256
     1
 }
 
-// The parent words of the record in order of position, a node's lowest own pixel before its root, and the list of the
+// The parent words of the record in order of position, a node's lowest own pixel no later than its root, and the list of the
 // representatives, whose runs start where it is said. Answers the number of nodes.
 pub fn write_record(picture: &[u8], starts: [usize; 256], ws: &mut [u32]) -> usize
     requires { ⌜ Recordable (now picture) (now ws) starts ⌝ }

@@ -23,42 +23,48 @@ level-root : (g par : ℕ → ℕ) (q : ℕ) → g (par q) ≡ g q → node-root
 unfolding node-root
 level-root g par q e = rw (eq-eqb (g (par q)) (g q) e) refl
 
+-- the lowest own pixel of the node of q is at or before q
+pub low-le : (n : ℕ) (g par : ℕ → ℕ) (q : ℕ) → q < n → low n g par q ≤ q
+unfolding lowest
+low-le n g par q b =
+    first-in-le
+    n
+    (λ (x : ℕ). eqb (node-root g par x) (node-root g par q))
+    q
+    b
+    (eq-eqb (node-root g par q) (node-root g par q) refl)
+
+-- it is an own pixel
+pub low-root : (n : ℕ) (g par : ℕ → ℕ) (q : ℕ) → q < n → node-root g par (low n g par q) ≡ node-root g par q
+unfolding lowest
+low-root n g par q b =
+    eqb-true
+    (node-root g par (low n g par q))
+    (node-root g par q)
+    (first-in-holds n (λ (x : ℕ). eqb (node-root g par x) (node-root g par q)) (omega (arith, low-le n g par q b)))
+
 module _ (n : ℕ) (adj : Adjacency) (symm : Symmetric adj) (g par : ℕ → ℕ) (forest : Forest n adj g par) where
   root-again : (q : ℕ) → q < n → node-root g par (node-root g par q) ≡ node-root g par q
   root-again q b = node-root-self g par (node-root g par q) (node-root-is n adj symm g par forest q b .2)
 
   low-below : (q : ℕ) → q < n → low n g par q < n
-  unfolding lowest
-  low-below q b =
-      let r : ℕ = node-root g par q in
-      let (c, e, last) = node-root-is n adj symm g par forest q b in
-      omega
-      (arith, first-in-le n (λ (x : ℕ). eqb (node-root g par x) r) r c (eq-eqb (node-root g par r) r (root-again q b)))
-
-  -- it is an own pixel
-  pub low-root : (q : ℕ) → q < n → node-root g par (low n g par q) ≡ node-root g par q
-  unfolding lowest
-  low-root q b =
-      eqb-true
-      (node-root g par (low n g par q))
-      (node-root g par q)
-      (first-in-holds n (λ (x : ℕ). eqb (node-root g par x) (node-root g par q)) (low-below q b))
+  low-below q b = omega (arith, low-le n g par q b)
 
   low-grey : (q : ℕ) → q < n → g (low n g par q) ≡ g q
   low-grey q b =
       sym (node-root-is n adj symm g par forest (low n g par q) (low-below q b) .1)
-      ∙ ap g (low-root q b)
+      ∙ ap g (low-root n g par q b)
       ∙ node-root-is n adj symm g par forest q b .1
 
   low-low : (q : ℕ) → q < n → low n g par (low n g par q) ≡ low n g par q
-  low-low q b = ap (lowest n g par) (low-root q b)
+  low-low q b = ap (lowest n g par) (low-root n g par q b)
 
   -- of a node root, the lowest own pixel is named by the root
   low-of-root : (r : ℕ) → Node-root g par r → low n g par r ≡ lowest n g par r
   low-of-root r last = ap (lowest n g par) (node-root-self g par r last)
 
   low-in : (q : ℕ) → q < n → Together n adj g (g q) q (low n g par q)
-  low-in q b = root-together n adj symm g par forest q (low n g par q) b (low-below q b) (low-root q b) .0
+  low-in q b = root-together n adj symm g par forest q (low n g par q) b (low-below q b) (low-root n g par q b) .0
 
   module _ (par' : ℕ → ℕ) (is : (q : ℕ) → q < n → par' q ≡ cond (eqb (low n g par q) q) (lowest n g par (par (node-root g par q))) (low n g par q)) where
     abbrev up : ℕ → ℕ
@@ -172,7 +178,7 @@ module _ (n : ℕ) (adj : Adjacency) (symm : Symmetric adj) (g par : ℕ → ℕ
       label-dark q b l dark =
           let y : ℕ = low n g par q in
           let c : y < n = low-below q b in
-          let same : up y ≡ par q = ap par (low-root q b ∙ node-root-self g par q (inr dark)) in
+          let same : up y ≡ par q = ap par (low-root n g par q b ∙ node-root-self g par q (inr dark)) in
           let e : low n g par y ≡ y = low-low q b in
           label-low q b (omega arith)
           ∙ agree y c (omega (arith, word-grey y c e, ap g same))
@@ -216,7 +222,7 @@ module _ (n : ℕ) (adj : Adjacency) (symm : Symmetric adj) (g par : ℕ → ℕ
         eq-eqb
         (node-root g par x)
         (node-root g par r)
-        (sym (low-root x c)
+        (sym (low-root n g par x c)
         ∙ ap (node-root g par) (sym (relabel-root x c) ∙ eqb-true (node-root g par' x) r t)))
         (λ t.
         eq-eqb
