@@ -27,7 +27,7 @@ use Rattle.flood.proofs.Tables.{stored, total-raised, total-le}
 abbrev pub advanced : List ℕ → ℕ → List ℕ
 advanced heads l = set heads l (getD heads l 0 + 1)
 
--- a head is a place of the order
+-- a head is a place in part 3
 pub head-in :
     {w : ℕ} {picture ws heads tails roots : List ℕ} {l : ℕ} → Ready w picture ws heads tails roots l
     → getD heads l 0 < length picture
@@ -205,7 +205,7 @@ module _ {w : ℕ} {picture ws heads tails roots ws' tails' roots' : List ℕ} {
               more = spent-more;
             }
 
--- the heads and the tails stay within the order, so there is an end to the steps
+-- the heads and the tails stay within part 3, so there is an end to the steps
 module _ {w : ℕ} {picture ws heads tails roots : List ℕ} {l : ℕ} where
   spent-le : Ready w picture ws heads tails roots l → spent heads tails ≤ 512 * length picture
   spent-le R =
