@@ -41,17 +41,8 @@ module _ (w p q : ℕ) where
       (λ a. inr (or-cases (next-in-row w q p) (next-in-column w q p) a))
 
 module _ (w p : ℕ) where
-  pub above-is : (q : ℕ) → next-in-column w q p ≡ true → p ≡ q + w
-  above-is q e = eqb-true p (q + w) e
-
   pub below-is : (q : ℕ) → next-in-column w p q ≡ true → q ≡ p + w
   below-is q e = eqb-true q (p + w) e
-
-  pub left-is : (q : ℕ) → next-in-row w q p ≡ true → p ≡ q + 1
-  left-is q e = eqb-true p (q + 1) (and-left (eqb p (q + 1)) (not (eqb (p % w) 0)) e)
-
-  pub left-inside : (q : ℕ) → next-in-row w q p ≡ true → p % w ≡ 0 → ⊥
-  left-inside q e = eqb-false (p % w) 0 (not-true _ (and-right (eqb p (q + 1)) (not (eqb (p % w) 0)) e))
 
   pub right-is : (q : ℕ) → next-in-row w p q ≡ true → q ≡ p + 1
   right-is q e = eqb-true q (p + 1) (and-left (eqb q (p + 1)) (not (eqb (q % w) 0)) e)
