@@ -11,6 +11,7 @@ use Rattle.sets.specs.Sets.{Positions}
 use Rattle.sets.proofs.Tests.{or-left, or-right}
 use Rattle.grid.specs.Neighbours.{next-in-row, next-in-column, edge-neighbours}
 use Rattle.grid.proofs.Attributes.{edge-symmetric}
+use Rattle.grid.proofs.Sides.{side-of, neighbour-before}
 use Rattle.flood.specs.Flooding.{state-of, Sound, Changed}
 use Rattle.flood.specs.Levels.{grey}
 use Rattle.flood.specs.Calls.{head-pixel, around, Ready, Standing, Visited, NoneOpen, Closable, ClosedBelow, spent, FloodedBy, Outcome, Stepped}
@@ -20,7 +21,6 @@ use Rattle.flood.proofs.Visits.{settle}
 use Rattle.flood.proofs.Finishing.{Empty, finished-sound, finished-at, finished-empty}
 use Rattle.flood.proofs.Closing.{closed-sound, closed-at}
 use Rattle.flood.proofs.Ending.{ends}
-use Rattle.flood.proofs.Sides.{side-of, neighbour-before}
 use Rattle.flood.proofs.Tables.{stored, total-raised, total-le}
 
 -- the heads with that of level l moved on

@@ -5,8 +5,8 @@ use native.Mathlib.Nat.{mod-le}
 use native.Mathlib.Omega.{arith}
 use borrow.Author.Needs.{needs}
 use borrow.Author.Tests.{eq-eqb}
-use Rattle.flood.proofs.Sides.{right-is, right-inside, is-next-in-row, to-left, standing-in, visiting}
-use Rattle.flood.proofs.Visits.{stays, on-side}
+use Rattle.grid.proofs.Sides.{right-is, right-inside, is-next-in-row, to-left}
+use Rattle.flood.proofs.Visits.{standing-in, visiting, stays, on-side}
 use Rattle.flood.proofs.queues.visit_left.Statement.{statement}
 use Rattle.flood.proofs.queues.visit_left.Tie as tie
 

@@ -3,8 +3,8 @@ use Prim.Native.Nat.{_-_}
 use native.Mathlib.Omega.{arith}
 use borrow.Author.Needs.{needs}
 use borrow.Author.Tests.{eq-eqb}
-use Rattle.flood.proofs.Sides.{below-is, is-next-in-column, to-above, standing-in, visiting}
-use Rattle.flood.proofs.Visits.{stays, on-side}
+use Rattle.grid.proofs.Sides.{below-is, is-next-in-column, to-above}
+use Rattle.flood.proofs.Visits.{standing-in, visiting, stays, on-side}
 use Rattle.flood.proofs.queues.visit_up.Statement.{statement}
 use Rattle.flood.proofs.queues.visit_up.Tie as tie
 
