@@ -6,6 +6,7 @@ use native.Mathlib.Omega.{arith}
 use Rattle.connected.specs.Component.{Adjacency, Symmetric}
 use Rattle.flood.specs.Flooding.{Joined, back, then, State, darker, Links, Finished, Sound, At, Changed}
 use Rattle.flood.proofs.Counts.{by-cases, equal-or-not, below-or-not}
+use Rattle.flood.proofs.Meeting.{finished-kept}
 
 -- the same state with other heads
 abbrev pub with-heads : State → (ℕ → ℕ) → State
@@ -69,8 +70,7 @@ module _ {n : ℕ} {adj : Adjacency} {g : ℕ → ℕ} {s : State} (S : Sound n 
       same-links h G L = record { up = L .up; across = L .across }
 
       keep-finished : (x : ℕ) → Finished n adj g s x → Finished n adj g (with-heads s head') x
-      keep-finished x F =
-          record { met = F .met; joined = λ y hy a h G L. F .joined y hy a h G (same-links h G L) }
+      keep-finished = finished-kept (λ x hx h. h) same-links
 
       head-up : (k : ℕ) → k < 256 → s .head k ≤ head' k
       head-up k hk =

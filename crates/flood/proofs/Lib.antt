@@ -8,6 +8,5 @@ pub mod Tables
 pub mod Marks
 pub mod Parts
 pub mod Visits
-pub mod Sides
 pub mod Steps
 pub mod Starts

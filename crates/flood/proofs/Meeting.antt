@@ -8,10 +8,10 @@ use native.Mathlib.Omega.{arith}
 use lib.Dec.{eqb, ltb}
 use borrow.Author.Tests.{eq-eqb, ne-eqb}
 use Rattle.sets.proofs.Tests.{and-false}
-use Rattle.sets.proofs.Laws.{count-ext, count-le}
+use Rattle.sets.proofs.Laws.{count-ext, count-le, count-some}
 use Rattle.connected.specs.Component.{Adjacency}
 use Rattle.flood.specs.Flooding.{Joined, same, back, then, State, darker, unmet, Contains, Links, Finished, Rooted, Opened, Placed, Place, Sound, At, Pushed}
-use Rattle.flood.proofs.Counts.{by-cases, equal-or-not, below-or-not, count-without, count-some, darker-mono}
+use Rattle.flood.proofs.Counts.{by-cases, equal-or-not, below-or-not, count-without, darker-mono}
 
 false-and : (a b : Bool) → a ≡ false → a && b ≡ false
 false-and a b e = rw e refl

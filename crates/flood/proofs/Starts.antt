@@ -1,4 +1,4 @@
--- The flood's start on the lists: the levels counted, the parents reset, and the first pixel in its queue.
+-- The flood's start on the lists: the levels counted, the parents filled, and the first pixel in its queue.
 use Prim.Native.Nat.{ℕ, suc, _+_, _-_, _/_, _%_, _^_, _≤_, _<_}
 use mathlib.Core.List.{List, _++_}
 use mathlib.Core.Path.{_≡_, refl, _∙_}
@@ -29,22 +29,22 @@ counts-fit {picture} {counts} C small =
       count-le (length picture) (λ (q : ℕ). ltb (grey picture q) 256),
     )
 
--- the first part reset
+-- the first part filled
 module _ {n : ℕ} {ws : List ℕ} (part : List ℕ) (size : Sized n ws) (kept : length part ≡ length (take (n - 0) (drop 0 ws))) where
   part-length : length (take (n - 0) (drop 0 ws)) ≡ n
   part-length = simp (length-take, length-drop) (omega (arith, size .words))
 
-  pub reset-sized : Sized n (part ++ drop (n - 0) (drop 0 ws))
-  reset-sized =
+  pub filled-sized : Sized n (part ++ drop (n - 0) (drop 0 ws))
+  filled-sized =
       record {
         words = simp (length-append, length-drop) (omega (arith, size .words, part-length));
         small = size .small;
       }
 
-  pub reset-unmet :
+  pub filled-unmet :
       ((i : ℕ) → i < length (take (n - 0) (drop 0 ws)) → getD part i 0 ≡ n) → (q : ℕ) → q < n
       → getD (part ++ drop (n - 0) (drop 0 ws)) q 0 ≡ n
-  reset-unmet all q h =
+  filled-unmet all q h =
       List·getD-append part _ 0 q (omega (arith, part-length)) ∙ all q (omega (arith, part-length))
 
 -- the table with no level open: n for each root, and an empty set

@@ -11,6 +11,7 @@ use Rattle.sets.specs.Sets.{Positions}
 use Rattle.sets.proofs.Tests.{or-left, or-right}
 use Rattle.grid.specs.Neighbours.{next-in-row, next-in-column, edge-neighbours}
 use Rattle.grid.proofs.Attributes.{edge-symmetric}
+use Rattle.grid.proofs.Sides.{side-of, neighbour-before}
 use Rattle.flood.specs.Flooding.{state-of, Sound, Changed}
 use Rattle.flood.specs.Levels.{grey}
 use Rattle.flood.specs.Calls.{head-pixel, around, Ready, Standing, Visited, NoneOpen, Closable, ClosedBelow, spent, FloodedBy, Outcome, Stepped}
@@ -20,14 +21,13 @@ use Rattle.flood.proofs.Visits.{settle}
 use Rattle.flood.proofs.Finishing.{Empty, finished-sound, finished-at, finished-empty}
 use Rattle.flood.proofs.Closing.{closed-sound, closed-at}
 use Rattle.flood.proofs.Ending.{ends}
-use Rattle.flood.proofs.Sides.{side-of, neighbour-before}
 use Rattle.flood.proofs.Tables.{stored, total-raised, total-le}
 
 -- the heads with that of level l moved on
 abbrev pub advanced : List ℕ → ℕ → List ℕ
 advanced heads l = set heads l (getD heads l 0 + 1)
 
--- a head is a place of the order
+-- a head is a place in part 3
 pub head-in :
     {w : ℕ} {picture ws heads tails roots : List ℕ} {l : ℕ} → Ready w picture ws heads tails roots l
     → getD heads l 0 < length picture
@@ -205,7 +205,7 @@ module _ {w : ℕ} {picture ws heads tails roots ws' tails' roots' : List ℕ} {
               more = spent-more;
             }
 
--- the heads and the tails stay within the order, so there is an end to the steps
+-- the heads and the tails stay within part 3, so there is an end to the steps
 module _ {w : ℕ} {picture ws heads tails roots : List ℕ} {l : ℕ} where
   spent-le : Ready w picture ws heads tails roots l → spent heads tails ≤ 512 * length picture
   spent-le R =

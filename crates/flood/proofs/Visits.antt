@@ -13,10 +13,24 @@ use Rattle.sets.proofs.Tests.{or-cases}
 use Rattle.grid.specs.Neighbours.{edge-neighbours}
 use Rattle.flood.specs.Flooding.{State, state-of}
 use Rattle.flood.specs.Levels.{grey, total}
-use Rattle.flood.specs.Calls.{Fitting, Placing, root-or, Ready, Visiting, Visited}
+use Rattle.flood.specs.Calls.{Fitting, Placing, root-or, Ready, Standing, Visiting, Visited}
 use Rattle.flood.proofs.Counts.{by-cases}
 use Rattle.flood.proofs.Meeting.{met-sound, met-at, met-ord, keep-met, now-met, tail-lt, reaches}
 use Rattle.flood.proofs.Tables.{total-raised}
+
+-- the pixel where the flood stands, and the visits of its neighbours
+module _ {w : ℕ} {picture ws heads tails roots : List ℕ} {l p : ℕ} (S : Standing w picture ws heads tails roots l p) where
+  pub standing-in : p < length picture
+  standing-in =
+      let R = S .ready in
+      let A = R .at in
+      rw
+      (S .here)
+      at
+      (R .sound .placed l _ (A .level) (R .sound .low l (A .level)) (A .busy l (A .level) (A .open-here)) .within)
+
+  pub visiting : (q : ℕ) → q < length picture → edge-neighbours w p q ≡ true → Visiting w picture ws heads tails roots l q
+  visiting q h e = record { ready = S .ready; within = h; next = rw (S .here) e }
 
 module _ {w : ℕ} {picture ws heads tails roots : List ℕ} where
   -- nothing is stored

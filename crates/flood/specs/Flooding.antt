@@ -1,6 +1,6 @@
--- What the flood keeps true while it runs, and what it leaves. A state is five functions: of a position (the parent word), of a
--- place in the order, and of a level (the head and the tail of its queue, the root of its open node). The number n stands for
--- "not met" in a parent word and for "no node is open" in a root.
+-- What the flood keeps true while it runs, and what it leaves: the parent words only. A state is five functions: of a position (the
+-- parent word), of a place in the runs (the pixel met there), and of a level (the head and the tail of its queue, the root of its open
+-- node). The number n stands for "not met" in a parent word and for "no node is open" in a root.
 use Prim.Native.Nat.{ℕ, suc, _+_, _*_, _≤_, _<_}
 use mathlib.Core.Bool.{true, _&&_}
 use mathlib.Core.List.{List}
@@ -18,7 +18,7 @@ pub data Joined (G : Adjacency) : ℕ → ℕ → Type 0 where
   back : {p q : ℕ} → Joined G p q → Joined G q p
   then : {p q r : ℕ} → Joined G p q → Joined G q r → Joined G p r
 
--- the parents, the order, and for each level the head and the tail of its queue and the root of its open node
+-- the parents, the runs of the pixels met, and for each level the head and the tail of its queue and the root of its open node
 pub record State : Type 0 where
   pub par : ℕ → ℕ
   pub ord : ℕ → ℕ
@@ -26,7 +26,7 @@ pub record State : Type 0 where
   pub tail : ℕ → ℕ
   pub root : ℕ → ℕ
 
--- part 1 of a workspace holds the parents, part 3 the pixels in order
+-- part 1 of a workspace holds the parents, part 3 the queues: for each level the run of its pixels that are met
 abbrev pub parent-of : List ℕ → ℕ → ℕ
 parent-of ws q = getD ws q 0
 
@@ -84,7 +84,7 @@ pub record Placed (n : ℕ) (g : ℕ → ℕ) (s : State) (k i : ℕ) : Type 0 w
   pub grey : g (s .ord i) ≡ k
   pub met : s .par (s .ord i) < n
 
--- the place of q in the order
+-- the place of q in the run of its level
 pub record Place (n : ℕ) (g : ℕ → ℕ) (s : State) (q : ℕ) : Type 0 where
   pub at : ℕ
   pub low : darker n g (g q) ≤ at

@@ -7,7 +7,7 @@ use native.Mathlib.Omega.{arith}
 use lib.Dec.{eqb}
 use Rattle.sets.specs.Sets.{Positions, Inside, some-in, count}
 use Rattle.sets.specs.Gather.{least, greatest}
-use Rattle.sets.proofs.Laws.{some-in-intro, some-in-elim, count-mono, count-more}
+use Rattle.sets.proofs.Laws.{some-in-intro, some-in-elim, count-mono, count-some}
 use Rattle.sets.proofs.Gather.{min-mono, max-mono}
 use Rattle.connected.specs.Component.{Symmetric}
 use Rattle.connected.proofs.Laws.{both-symmetric}
@@ -60,5 +60,5 @@ attribute-some w n a s q below in-s =
     cond-case
     (λ (k : ℕ). 1 ≤ k)
     (eqb a 1)
-    (λ e. omega (arith, count-more n (λ (r : ℕ). false) s q (λ r b no-r. absurd (false≢true no-r)) below refl in-s))
+    (λ e. count-some n s q below in-s)
     (λ e. rw (extent-ends n (side w a) s (some-in-intro n s q below in-s)) (omega arith))

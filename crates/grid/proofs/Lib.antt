@@ -1,3 +1,4 @@
 pub mod Attributes
+pub mod Sides
 pub mod Whole
 pub mod Edges

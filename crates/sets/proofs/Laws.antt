@@ -113,6 +113,10 @@ count-more (suc n) s t q h b f e =
     (λ l. omega (arith, one-le (s n) (t n) (h n (omega arith)), count-more n s t q (λ r l. h r (omega arith)) l f e))
     (last-or-below q n b)
 
+-- a set with a position in it counts some
+pub count-some : (n : ℕ) (s : Positions) (q : ℕ) → q < n → s q ≡ true → 0 < count n s
+count-some n s q b e = omega (arith, count-more n (λ (r : ℕ). false) s q (λ r l no-r. absurd (false≢true no-r)) b refl e)
+
 pub count-ext : (n : ℕ) (s t : Positions) → ((q : ℕ) → q < n → s q ≡ t q) → count n s ≡ count n t
 unfolding count
 count-ext zero s t h = refl

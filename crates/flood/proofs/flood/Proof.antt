@@ -2,7 +2,7 @@
 -- flood ready to run.
 use native.Mathlib.Omega.{arith}
 use borrow.Author.Needs.{needs}
-use Rattle.flood.proofs.Starts.{counts-fit, reset-sized, reset-unmet, first-fits, first-ready}
+use Rattle.flood.proofs.Starts.{counts-fit, filled-sized, filled-unmet, first-fits, first-ready}
 use Rattle.flood.proofs.flood.Statement.{statement}
 use Rattle.flood.proofs.flood.Tie as tie
 
@@ -47,36 +47,36 @@ cast-first c = omega (arith, c .shared-slice-known2 .given 0)
 
 push-requires : tie.Need-push-requires
 push-requires c κs =
-    let reset = c .before .before .before .before .before .before in
-    let starts = reset .before .before in
-    let start = reset .before .before .before .before .before .before in
-    let part = reset .fill .last .0 in
+    let filled = c .before .before .before .before .before .before in
+    let starts = filled .before .before in
+    let start = filled .before .before .before .before .before .before in
+    let part = filled .fill .last .0 in
     let sized = start .pre .sized in
-    let kept = reset .fill .kept .0 in
+    let kept = filled .fill .kept .0 in
     first-fits
     (start .pre)
     (λ x. c .before .before .before .shared-slice-known2 .given x .fits)
     (starts .before .count-levels .ensures)
     (starts .run-starts .ensures)
-    (reset-sized part sized kept)
-    (reset-unmet part sized kept (reset .fill .ensures))
+    (filled-sized part sized kept)
+    (filled-unmet part sized kept (filled .fill .ensures))
 
 run-requires : tie.Need-run-requires
 run-requires c κs =
-    let reset = c .before .before .before .before .before .before .before .before .before .before .before .before .before in
-    let starts = reset .before .before in
-    let start = reset .before .before .before .before .before .before in
-    let part = reset .fill .last .0 in
+    let filled = c .before .before .before .before .before .before .before .before .before .before .before .before .before in
+    let starts = filled .before .before in
+    let start = filled .before .before .before .before .before .before in
+    let part = filled .fill .last .0 in
     let sized = start .pre .sized in
-    let kept = reset .fill .kept .0 in
+    let kept = filled .fill .kept .0 in
     let first = c .before .before .before .before .before .before .push in
     first-ready
     (start .pre)
     (λ x. c .before .before .before .before .before .before .before .before .before .before .shared-slice-known2 .given x .fits)
     (starts .before .count-levels .ensures)
     (starts .run-starts .ensures)
-    (reset-sized part sized kept)
-    (reset-unmet part sized kept (reset .fill .ensures))
+    (filled-sized part sized kept)
+    (filled-unmet part sized kept (filled .fill .ensures))
     (first .ensures)
     (first .kept .1 .1 .1 .0)
 

@@ -3,8 +3,8 @@ use Prim.Native.Nat.{_+_}
 use mathlib.Core.Path.{refl}
 use native.Mathlib.Omega.{arith}
 use borrow.Author.Needs.{needs}
-use Rattle.flood.proofs.Sides.{below-is, is-next-in-column, to-below, standing-in, visiting}
-use Rattle.flood.proofs.Visits.{stays}
+use Rattle.grid.proofs.Sides.{below-is, is-next-in-column, to-below}
+use Rattle.flood.proofs.Visits.{standing-in, visiting, stays}
 use Rattle.flood.proofs.queues.visit_down.Statement.{statement}
 use Rattle.flood.proofs.queues.visit_down.Tie as tie
 

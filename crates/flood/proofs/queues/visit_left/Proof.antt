@@ -5,8 +5,8 @@ use native.Mathlib.Nat.{mod-le}
 use native.Mathlib.Omega.{arith}
 use borrow.Author.Needs.{needs}
 use borrow.Author.Tests.{eq-eqb}
-use Rattle.flood.proofs.Sides.{left-is, left-inside, is-next-in-row, to-left, standing-in, visiting}
-use Rattle.flood.proofs.Visits.{stays, on-side}
+use Rattle.grid.proofs.Sides.{right-is, right-inside, is-next-in-row, to-left}
+use Rattle.flood.proofs.Visits.{standing-in, visiting, stays, on-side}
 use Rattle.flood.proofs.queues.visit_left.Statement.{statement}
 use Rattle.flood.proofs.queues.visit_left.Tie as tie
 
@@ -15,7 +15,7 @@ returns c =
     let at = c .before .before .before in
     let p = at .args .p in
     let w = at .args .width in
-    stays (at .pre .0 .ready) (λ x hx h. absurd (left-inside w p x h (sym (at .pre .1) ∙ c .if1 .taken)))
+    stays (at .pre .0 .ready) (λ x hx h. absurd (right-inside w x p h (sym (at .pre .1) ∙ c .if1 .taken)))
 
 sub-visit : tie.Need-sub-visit
 sub-visit c =
@@ -38,7 +38,7 @@ returns-2 c =
     let at = c .before .before .before .before .before .before .before .before .before in
     let p = at .args .p in
     let w = at .args .width in
-    on-side (c .before .before .visit .ensures) (λ x hx h. eq-eqb x _ (omega (arith, left-is w p x h)))
+    on-side (c .before .before .visit .ensures) (λ x hx h. eq-eqb x _ (omega (arith, right-is w x p h)))
 
 pub visit-left-spec : {M : Type 1} → statement M
 visit-left-spec = tie.close (tie.spec returns sub-visit visit-requires same-length returns-2)

@@ -3,8 +3,8 @@ use Prim.Native.Nat.{_-_}
 use native.Mathlib.Omega.{arith}
 use borrow.Author.Needs.{needs}
 use borrow.Author.Tests.{eq-eqb}
-use Rattle.flood.proofs.Sides.{above-is, is-next-in-column, to-above, standing-in, visiting}
-use Rattle.flood.proofs.Visits.{stays, on-side}
+use Rattle.grid.proofs.Sides.{below-is, is-next-in-column, to-above}
+use Rattle.flood.proofs.Visits.{standing-in, visiting, stays, on-side}
 use Rattle.flood.proofs.queues.visit_up.Statement.{statement}
 use Rattle.flood.proofs.queues.visit_up.Tie as tie
 
@@ -13,7 +13,7 @@ returns c =
     let at = c .before .before .before in
     let p = at .args .p in
     let w = at .args .width in
-    stays (at .pre .ready) (λ x hx h. absurd (omega (arith, above-is w p x h)))
+    stays (at .pre .ready) (λ x hx h. absurd (omega (arith, below-is w x p h)))
 
 visit-requires : tie.Need-visit-requires
 visit-requires c κs =
@@ -31,7 +31,7 @@ returns-2 c =
     let at = c .before .before .before .before .before .before .before .before .before in
     let p = at .args .p in
     let w = at .args .width in
-    on-side (c .before .before .visit .ensures) (λ x hx h. eq-eqb x _ (omega (arith, above-is w p x h)))
+    on-side (c .before .before .visit .ensures) (λ x hx h. eq-eqb x _ (omega (arith, below-is w x p h)))
 
 pub visit-up-spec : {M : Type 1} → statement M
 visit-up-spec = tie.close (tie.spec returns visit-requires same-length returns-2)

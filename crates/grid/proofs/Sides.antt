@@ -1,18 +1,15 @@
--- The four sides of a pixel: where the neighbour on each side is, and that it is one.
+-- The four sides of a pixel: where the neighbour on each side is, and that it is one. A lemma that needs rows that are not empty asks it.
 use Prim.Native.Nat.{ℕ, _+_, _-_, _%_, _≤_, _<_}
 use mathlib.Core.Bool.{true, not, _||_}
-use mathlib.Core.List.{List}
-use mathlib.Core.Logic.{_⊎_, inl, inr}
+use mathlib.Core.Logic.{_⊎_, inl, inr, ⊎-elim, by-cases}
 use mathlib.Core.Path.{_≡_, sym, ap, _∙_}
+use native.Mathlib.Decide.{ℕ-discrete}
 use native.Mathlib.Nat.{mod-self, mod-eq-of-lt, mod-add-mod, mod-lt}
 use native.Mathlib.Omega.{arith}
 use lib.Dec.{eqb}
-use lib.ListN.{length}
 use borrow.Author.Tests.{eqb-true, eqb-false, eq-eqb, ne-eqb, not-true}
-use Rattle.sets.proofs.Tests.{or-cases, and-left, and-both, and-right, or-left, or-right}
+use Rattle.sets.proofs.Tests.{or-cases, and-left, and-both, and-right, or-left, or-right, le-or-lt}
 use Rattle.grid.specs.Neighbours.{next-in-row, next-in-column, edge-neighbours}
-use Rattle.flood.specs.Calls.{Standing, Visiting}
-use Rattle.flood.proofs.Counts.{by-cases, equal-or-not, below-or-not}
 
 module _ (w p q : ℕ) where
   pub to-right : next-in-row w p q ≡ true → edge-neighbours w p q ≡ true
@@ -35,23 +32,14 @@ module _ (w p q : ℕ) where
       → ((next-in-row w p q ≡ true) ⊎ (next-in-column w p q ≡ true))
       ⊎ ((next-in-row w q p ≡ true) ⊎ (next-in-column w q p ≡ true))
   side-of e =
-      by-cases
-      (or-cases (next-in-row w p q || next-in-column w p q) (next-in-row w q p || next-in-column w q p) e)
+      ⊎-elim
       (λ a. inl (or-cases (next-in-row w p q) (next-in-column w p q) a))
       (λ a. inr (or-cases (next-in-row w q p) (next-in-column w q p) a))
+      (or-cases (next-in-row w p q || next-in-column w p q) (next-in-row w q p || next-in-column w q p) e)
 
 module _ (w p : ℕ) where
-  pub above-is : (q : ℕ) → next-in-column w q p ≡ true → p ≡ q + w
-  above-is q e = eqb-true p (q + w) e
-
   pub below-is : (q : ℕ) → next-in-column w p q ≡ true → q ≡ p + w
   below-is q e = eqb-true q (p + w) e
-
-  pub left-is : (q : ℕ) → next-in-row w q p ≡ true → p ≡ q + 1
-  left-is q e = eqb-true p (q + 1) (and-left (eqb p (q + 1)) (not (eqb (p % w) 0)) e)
-
-  pub left-inside : (q : ℕ) → next-in-row w q p ≡ true → p % w ≡ 0 → ⊥
-  left-inside q e = eqb-false (p % w) 0 (not-true _ (and-right (eqb p (q + 1)) (not (eqb (p % w) 0)) e))
 
   pub right-is : (q : ℕ) → next-in-row w p q ≡ true → q ≡ p + 1
   right-is q e = eqb-true q (p + 1) (and-left (eqb q (p + 1)) (not (eqb (q % w) 0)) e)
@@ -79,35 +67,18 @@ module _ (w p : ℕ) where
   pub row-in : (n : ℕ) → p < n → n % w ≡ 0 → ((p + 1) % w ≡ 0 → ⊥) → p + 1 < n
   row-in n h whole ne =
       by-cases
-      (equal-or-not (p + 1) n)
+      (ℕ-discrete (p + 1) n)
       (λ e. absurd (ne (ap (λ (x : ℕ). x % w) e ∙ whole)))
       (λ far. omega arith)
-
--- the pixel where the flood stands, and the visits of its neighbours
-module _ {w : ℕ} {picture ws heads tails roots : List ℕ} {l p : ℕ} (S : Standing w picture ws heads tails roots l p) where
-  pub standing-in : p < length picture
-  standing-in =
-      let R = S .ready in
-      let A = R .at in
-      rw
-      (S .here)
-      at
-      (R .sound .placed l _ (A .level) (R .sound .low l (A .level)) (A .busy l (A .level) (A .open-here)) .within)
-
-  pub visiting : (q : ℕ) → q < length picture → edge-neighbours w p q ≡ true → Visiting w picture ws heads tails roots l q
-  visiting q h e = record { ready = S .ready; within = h; next = rw (S .here) e }
 
 -- every pixel but the first has a neighbour before it
 pub neighbour-before : (w : ℕ) → 0 < w → (q : ℕ) → 0 < q → (r : ℕ) × (r < q) × (edge-neighbours w r q ≡ true)
 neighbour-before w h q hq =
     by-cases
-    (equal-or-not (q % w) 0)
+    (ℕ-discrete (q % w) 0)
     (λ e.
     let le : w ≤ q =
-    by-cases
-    (below-or-not q w)
-    (λ lt. absurd (let z = mod-eq-of-lt lt in omega arith))
-    (λ ge. ge)
+    ⊎-elim (λ ge. ge) (λ lt. absurd (omega (arith, mod-eq-of-lt lt))) (le-or-lt w q)
     in
     (q - w, omega arith, to-below w (q - w) q (is-next-in-column w (q - w) q (omega arith))))
     (λ ne. (q - 1, omega arith, to-right w (q - 1) q (is-next-in-row w (q - 1) q (omega arith) ne)))
