@@ -1,13 +1,13 @@
 -- What an accepted steps file gives: an attribute, a step list, and where its thresholds stand in the lent steps.
 use Prim.Native.Nat.{ℕ, _≤_}
-use mathlib.Core.Path.{_≡_, sym, _∙_}
+use mathlib.Core.Path.{_≡_, _∙_}
 use mathlib.Core.Bool.{Bool, true, false, cond, not}
 use mathlib.Core.List.{List, _++_}
 use native.Mathlib.Nat.{zero-add}
 use native.Mathlib.Omega.{arith}
 use lib.Dec.{eqb}
-use lib.ListN.{length, take, drop}
-use lib.Seq.{sets-eq, take-at}
+use lib.ListN.{length, drop}
+use lib.Seq.{sets-eq}
 use borrow.Author.Tests.{not-true, eqb-false}
 use Rattle.causes.specs.Causes.{must}
 use Rattle.causes.specs.declared.Cause.{Cause}
@@ -73,10 +73,3 @@ accepted-steps file lent attribute count size e =
     let a = accepted-file file attribute count e in
     let few : length (steps-in file) ≤ length lent = omega (arith, a .few-steps, a .total) in
     rw (e, a .total) (sets-eq (steps-in file) lent 0 (omega arith) ∙ rw (zero-add (length (steps-in file))))
-
--- so the first `count` entries, lent on, are a step list
-pub accepted-list : (file lent : List ℕ) (attribute count : ℕ) → length lent ≡ 256 → parse-answer file ≡ Steps attribute count → take count (steps-after file lent) ≡ steps-in file
-accepted-list file lent attribute count size e =
-    rw
-    (accepted-steps file lent attribute count size e)
-    (take-at (steps-in file) (drop count lent) count (sym (accepted-file file attribute count e .total)))
