@@ -16,10 +16,10 @@ use Rattle.causes.proofs.Refusing.{must-passed}
 use Rattle.steps.specs.Fields.{same, area, height, width, attribute-of}
 use Rattle.steps.specs.Lines.{lines, word-on, well-formed}
 use Rattle.calls.specs.Judging.{steps-good}
+use Rattle.calls.proofs.Accepted.{step-list}
 use Rattle.steps.specs.Answer.{attribute-in, steps-in, parse-answer, steps-after}
 use Rattle.steps.specs.declared.Parsed.{Parsed}
 use Rattle.steps.specs.declared.Parsed.the-variants.{Steps, Refused}
-use Rattle.steps.proofs.Answering.{steps-few}
 
 -- a test that did not refuse
 must-steps : (b : Bool) (cause : Cause) (answer : Parsed) (attribute count : ℕ) → must Refused b cause answer ≡ Steps attribute count → (b ≡ true) × (answer ≡ Steps attribute count)
@@ -63,7 +63,7 @@ accepted-file file attribute count e =
       attribute-within = omega (arith, attribute-most (word-on (lines file)));
       step-list = c .0;
       total = as-many;
-      few-steps = omega (arith, steps-few (steps-in file) (c .0));
+      few-steps = omega (arith, step-list (steps-in file) (c .0) .not-more);
     }
 
 -- the first `count` of 256 lent entries are the listed thresholds, the others as they were
