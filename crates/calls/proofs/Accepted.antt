@@ -21,10 +21,8 @@ use Rattle.calls.specs.declared.Verdict.the-variants.{Accepted, Refused}
 
 -- a step list
 pub record Step-list (steps : List ℕ) : Type 0 where
-  pub some-steps : 1 ≤ length steps
   pub not-more : length steps ≤ 256
   pub rises : rising 0 steps ≡ true
-  pub in-range : all-good steps ≡ true
 
 pub step-list : (steps : List ℕ) → steps-good steps ≡ true → Step-list steps
 unfolding steps-good
@@ -35,17 +33,14 @@ step-list steps good =
     let listed : (rising 0 steps && all-good steps) ≡ true =
     and-right (leb 1 l && leb l 256) (rising 0 steps && all-good steps) good in
     record {
-      some-steps = leb-true 1 l (and-left (leb 1 l) (leb l 256) counted);
       not-more = leb-true l 256 (and-right (leb 1 l) (leb l 256) counted);
       rises = and-left (rising 0 steps) (all-good steps) listed;
-      in-range = and-right (rising 0 steps) (all-good steps) listed;
     }
 
 -- a call that passes every test
 pub record Passed (width height attribute bytes : ℕ) (thresholds : Bool) (words : ℕ) (outputs : Bool) : Type 0 where
   pub sides : sides-fit width height ≡ true
   pub a-byte-each : bytes ≡ width * height
-  pub attribute-known : attribute-good attribute ≡ true
   pub thresholds-good : thresholds ≡ true
   pub six-words-each : words ≡ 6 * (width * height)
   pub outputs-good : outputs ≡ true
@@ -64,14 +59,13 @@ unfolding call-verdict
 passed width height attribute bytes thresholds words outputs verdict =
     let (sides, e₁) = test-passed (sides-fit width height) Sides _ verdict in
     let (bytes-good, e₂) = test-passed (eqb bytes (width * height)) PictureLength _ e₁ in
-    let (attribute-known, e₃) = test-passed (attribute-good attribute) Attribute _ e₂ in
+    let e₃ = test-passed (attribute-good attribute) Attribute _ e₂ .1 in
     let (thresholds-good, e₄) = test-passed thresholds Steps _ e₃ in
     let (words-good, e₅) = test-passed (eqb words (6 * (width * height))) Workspace _ e₄ in
     let (outputs-good, e₆) = test-passed outputs Output _ e₅ in
     record {
       sides = sides;
       a-byte-each = eqb-true bytes (width * height) bytes-good;
-      attribute-known = attribute-known;
       thresholds-good = thresholds-good;
       six-words-each = eqb-true words (6 * (width * height)) words-good;
       outputs-good = outputs-good;

@@ -5,7 +5,7 @@ use Prim.Native.Nat.{ℕ, zero, suc, _<_}
 use mathlib.Core.Bool.{Bool, true, _&&_, _||_}
 use mathlib.Core.List.{List}
 use mathlib.Core.Logic.{_⊎_, inl, inr, ⊎-elim}
-use mathlib.Core.Path.{_≡_, refl, sym, ap, subst, _∙_}
+use mathlib.Core.Path.{_≡_, refl, ap, subst, _∙_}
 use native.Mathlib.Omega.{arith}
 use lib.Dec.{eqb}
 use lib.ListN.{length}
@@ -98,10 +98,6 @@ module _ (n : ℕ) (adj : Adjacency) where
   walk-inside s p q (here b h) = (b, h)
   walk-inside s p q (on w e b h) = (b, h)
 
-  pub walk-start : (s : Positions) (p q : ℕ) → Walk n adj s p q → (p < n) × (s p ≡ true)
-  walk-start s p q (here b h) = (b, h)
-  walk-start s p q (on {q = r} w e b h) = walk-start s p r w
-
   pub walk-trans : (s : Positions) (p q r : ℕ) → Walk n adj s p q → Walk n adj s q r → Walk n adj s p r
   walk-trans s p q r v (here b h) = v
   walk-trans s p q r v (on {q = m} w e b h) = on (walk-trans s p q m v w) e b h
@@ -126,9 +122,6 @@ module _ (n : ℕ) (adj : Adjacency) where
 
   pub component-inside : (s : Positions) (p q : ℕ) → member (component n adj s p) q ≡ true → s q ≡ true
   component-inside s p q h = walk-inside s p q (component-walk s p q h) .1
-
-  pub component-start : (s : Positions) (p q : ℕ) → member (component n adj s p) q ≡ true → (p < n) × (s p ≡ true)
-  component-start s p q h = walk-start s p q (component-walk s p q h)
 
   pub component-step : (s : Positions) (p q r : ℕ) → member (component n adj s p) q ≡ true → adj q r ≡ true → r < n → s r ≡ true → member (component n adj s p) r ≡ true
   unfolding component Ended grown
@@ -175,10 +168,3 @@ module _ (n : ℕ) (adj : Adjacency) where
   component-list s p q sy h =
       list-ext n (component n adj s p) (component n adj s q) (length-component s p) (length-component s q)
       (λ r b. component-same s p q sy h r)
-
-  pub component-ext : (s t : Positions) (p : ℕ) → ((q : ℕ) → q < n → s q ≡ t q) → component n adj s p ≡ component n adj t p
-  component-ext s t p h =
-      list-ext n (component n adj s p) (component n adj t p) (length-component s p) (length-component t p)
-      (λ r b. same-truth (member (component n adj s p) r) (member (component n adj t p) r)
-      (component-mono s t p r (λ q c k. sym (h q c) ∙ k))
-      (component-mono t s p r (λ q c k. h q c ∙ k)))

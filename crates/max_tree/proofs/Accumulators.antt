@@ -1,16 +1,16 @@
 -- Laws of the accumulators, for the three attributes together: joining is commutative and associative, nothing changes nothing,
 -- and the attribute of a set is read from its accumulator. Assumes nothing.
 use Prim.Native.Nat.{ℕ, zero, suc, _+_, _/_, _%_, min, max, _≤_, _<_}
-use mathlib.Core.Bool.{Bool, true, false, _&&_, _||_}
+use mathlib.Core.Bool.{true, false, _||_}
 use mathlib.Core.Logic.{⊎-elim}
 use mathlib.Core.Path.{_≡_, refl, sym, ap, _∙_}
 use native.Mathlib.Nat.{le-antisymm}
 use native.Mathlib.Omega.{arith}
-use lib.Dec.{eqb, ltb}
-use borrow.Author.Tests.{eqb-true, lt-ltb, ltb-true}
+use lib.Dec.{eqb}
+use borrow.Author.Tests.{eqb-true}
 use Rattle.sets.specs.Sets.{Positions, count}
 use Rattle.sets.specs.Gather.{gather, least, greatest}
-use Rattle.sets.proofs.Tests.{decided, clash, is-false, and-left, and-right}
+use Rattle.sets.proofs.Tests.{decided, clash, is-false}
 use Rattle.sets.proofs.Laws.{some-in-intro}
 use Rattle.sets.proofs.Gather.{gather-ext, gather-one, gather-union, min-le, max-ge, min-found}
 use Rattle.grid.specs.Attributes.{side, extent, attribute}
@@ -61,21 +61,8 @@ module _ (a n : ℕ) (v : ℕ → ℕ) where
   -- the accumulator of two sets that do not meet
   pub gathered-union : (s t u : Positions) → ((x : ℕ) → x < n → s x ≡ true → t x ≡ false) → ((x : ℕ) → x < n → u x ≡ (s x || t x)) → gathered a n v u ≡ combined a (gathered a n v s) (gathered a n v t)
   gathered-union s t u apart both =
-      let below : Positions = λ x. ltb x n && s x in
-      let same : (x : ℕ) → x < n → below x ≡ s x = λ x b. ap (λ (k : Bool). k && s x) (lt-ltb x n b) in
-      gather-ext n (combined a) (nothing a) v u (λ (x : ℕ). below x || t x) (λ x b. both x b ∙ ap (λ (k : Bool). k || t x) (sym (same x b)))
-      ∙ gather-union
-      (combined a)
-      (combined-assoc a)
-      (combined-comm a)
-      n
-      (nothing a)
-      v
-      below
-      t
-      (combined-nothing a (nothing a))
-      (λ x i. apart x (ltb-true x n (and-left (ltb x n) (s x) i)) (and-right (ltb x n) (s x) i))
-      ∙ ap (λ (k : ℕ). combined a k (gathered a n v t)) (gather-ext n (combined a) (nothing a) v below s same)
+      gather-ext n (combined a) (nothing a) v u (λ (x : ℕ). s x || t x) both
+      ∙ gather-union (combined a) (combined-assoc a) (combined-comm a) n (nothing a) v s t (combined-nothing a (nothing a)) apart
 
   -- and of one pixel more
   pub gathered-with : (s u : Positions) (q : ℕ) → q < n → s q ≡ false → ((x : ℕ) → x < n → u x ≡ (s x || eqb q x)) → gathered a n v u ≡ combined a (gathered a n v s) (v q)

@@ -4,10 +4,9 @@ use Prim.Native.Nat.{ℕ, _+_, _-_, _*_, _%_, _≤_, _<_}
 use mathlib.Core.List.{List, _++_, append-nil}
 use mathlib.Core.Logic.{⊎-elim}
 use mathlib.Core.Path.{_≡_, sym, ap, _∙_}
-use native.Mathlib.Omega.{arith}
 use lib.Dec.{eqb}
-use lib.ListN.{length, getD, set, take, drop, length-drop}
-use lib.Seq.{getD-take, getD-set-same, getD-set-other, take-all, drop-at, drop-length, length-take-le}
+use lib.ListN.{length, getD, set, take, drop}
+use lib.Seq.{getD-take, getD-set-same, getD-set-other, drop-at, drop-length, length-take-le}
 use borrow.Author.Tests.{eqb-true, eqb-false}
 use borrow.Rule.Slice.PartMut.{postOf, putMid, post-is}
 use Rattle.sets.proofs.Tests.{decided}
@@ -19,11 +18,7 @@ use Rattle.residues.proofs.Settling.{place-of-root, word-never, best-ne
 pub words-read : (n : ℕ) (ws : List ℕ) (x : ℕ) → x < 3 * n → getD ws x 0 ≡ getD (take (3 * n) ws) x 0
 words-read n ws x b = sym (getD-take (3 * n) ws x 0 b)
 
--- the part from the fourth on
-pub runs-all : (n : ℕ) (ws : List ℕ) → take (length ws - 3 * n) (drop (3 * n) ws) ≡ drop (3 * n) ws
-runs-all n ws = take-all (length ws - 3 * n) (drop (3 * n) ws) (omega (arith, length-drop (3 * n) ws))
-
--- what is put back there
+-- what is put back from the fourth part on
 pub runs-back : (n : ℕ) (ws runs : List ℕ) → 3 * n ≤ length ws → drop (3 * n) (putMid (3 * n) (length ws - 3 * n) ws runs) ≡ runs
 runs-back n ws runs l =
     drop-at (take (3 * n) ws) (runs ++ postOf (3 * n) (length ws - 3 * n) ws) (3 * n) (length-take-le (3 * n) ws l)

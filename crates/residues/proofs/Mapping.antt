@@ -14,7 +14,7 @@ use Rattle.sets.proofs.Tests.{and-left, and-right}
 use Rattle.grid.specs.Neighbours.{edge-neighbours}
 use Rattle.grid.specs.Attributes.{attribute}
 use Rattle.grid.proofs.Attributes.{edge-symmetric, attribute-some}
-use Rattle.tree.specs.Tree.{workspace, is-representative, number-of-nodes}
+use Rattle.tree.specs.Tree.{is-representative, number-of-nodes}
 use Rattle.tree.proofs.Words.{parent-at, attribute-at}
 use Rattle.causes.specs.declared.Cause.{Cause}
 use Rattle.calls.specs.Judging.{steps-good, call-verdict, verdict-number}
@@ -25,6 +25,8 @@ use Rattle.calls.proofs.Accepted.{Passed, passed, bounded, Step-list, step-list
 use Rattle.flood.specs.Flooding.{order-of}
 use Rattle.flood.specs.Calls.{Sized}
 use Rattle.max_tree.specs.Building.{Buildable, Ordered}
+use Rattle.max_tree.proofs.Agreeing.{listed-same}
+use Rattle.max_tree.proofs.Answering.{whole}
 use Rattle.residues.specs.Passes.{Given, Ready}
 use Rattle.residues.specs.Recorded.{Recorded, Written}
 use Rattle.residues.proofs.Climbing.{recorded-climbable}
@@ -37,8 +39,7 @@ front n ws ws' kept =
 module _ (w h a : ℕ) {picture ws : List ℕ} {nodes : ℕ} (built : Ordered (w * h) w a picture ws nodes) where
   -- the record with its scratch cleared
   record-cleared : take (2 * (w * h)) ws ++ replicate (4 * (w * h)) 0 ≡ record-of w h a picture
-  unfolding workspace
-  record-cleared = ap (λ (l : List ℕ). l ++ replicate (4 * (w * h)) 0) (built .tree)
+  record-cleared = whole w h a picture ws (take (2 * (w * h)) ws ++ replicate (4 * (w * h)) 0) nodes built refl .left
 
   -- the words of the first two parts are those of the record
   tree-word : (x : ℕ) → x < 2 * (w * h) → getD (take (3 * (w * h)) ws) x 0 ≡ getD (record-of w h a picture) x 0
@@ -67,12 +68,7 @@ module _ (w h a : ℕ) {picture ws : List ℕ} {nodes : ℕ} (built : Ordered (w
     parents = λ q b. tree-word q (omega arith) ∙ parent-at (w * h) (edge-neighbours w) (attribute w (w * h) a) (grey picture) q b;
     attributes =
         λ q b. tree-word (w * h + q) (omega arith) ∙ attribute-at (w * h) (edge-neighbours w) (attribute w (w * h) a) (grey picture) q b;
-    order = record {
-      within = λ i l. rw (place-word i l) (built .order .within i l);
-      inside = λ i l. rw (place-word i l) (built .order .inside i l);
-      place = λ q b some. let (i, l, e) = built .order .place q b some in (i, l, place-word i l ∙ e);
-      rising = λ i j early l. rw (place-word i (omega arith), place-word j l) (built .order .rising i j early l);
-    };
+    order = listed-same _ _ _ _ _ _ _ (λ q b. refl) place-word (built .order);
   }
 
 -- the verdict on a map call

@@ -12,12 +12,13 @@ use lib.Seq.{getD-set-same}
 use borrow.Author.Tests.{eqb-true, eqb-false, lt-ltb, ltb-true}
 use borrow.Rule.Slice.PartMut.{putMid, take-put, same-len-mid}
 use Rattle.sets.proofs.Tests.{decided, le-or-lt, last-or-below}
+use Rattle.causes.proofs.Lists.{to-end}
 use Rattle.flood.specs.Flooding.{order-of}
 use Rattle.max_tree.proofs.Listing.{listed-rises, listed-apart}
 use Rattle.residues.specs.Settle.{place-of, Settleable, Stored}
 use Rattle.residues.specs.Passes.{place-at, Stands, Climbable, Given, Settled, Progress, Visitable}
 use Rattle.residues.proofs.Settling.{word-low}
-use Rattle.residues.proofs.Holding.{words-read, runs-all, runs-back, settled-other, settled-here}
+use Rattle.residues.proofs.Holding.{words-read, runs-back, settled-other, settled-here}
 
 -- the turn at place i
 module _ {n m : ℕ} {picture steps words ws residues indices : List ℕ} {i : ℕ} (b : i < m) (given : Given n m picture steps words)
@@ -145,7 +146,7 @@ module _ {n : ℕ} {picture steps ws residues indices : List ℕ} {i : ℕ} (tur
 
   pub visit-ready : Settleable picture steps (take (length ws - 3 * n) (drop (3 * n) ws)) residues indices (getD ws (2 * n + i) 0)
       (getD ws (getD ws (2 * n + i) 0) 0)
-  visit-ready = rw (runs-all n ws, pixel-read, parent-read) (turn-ready (turn .inside) (turn .given) (turn .progress))
+  visit-ready = rw (to-end ws (3 * n), pixel-read, parent-read) (turn-ready (turn .inside) (turn .given) (turn .progress))
 
   pub visit-settles : getD picture (getD ws (2 * n + i) 0) 0 < 256 → {runs' residues' indices' : List ℕ}
       → length runs' ≡ length (take (length ws - 3 * n) (drop (3 * n) ws))
@@ -164,7 +165,7 @@ module _ {n : ℕ} {picture steps ws residues indices : List ℕ} {i : ℕ} (tur
       runs'
       residues'
       indices'
-      (rw (runs-all n ws, pixel-read, parent-read, attribute-read) at stored)
+      (rw (to-end ws (3 * n), pixel-read, parent-read, attribute-read) at stored)
       (putMid (3 * n) (length ws - 3 * n) ws runs')
       (take-put (3 * n) (length ws - 3 * n) ws runs' fits)
       (runs-back n ws runs' fits)

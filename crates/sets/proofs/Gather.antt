@@ -1,15 +1,15 @@
 -- Laws of what is gathered over a set: of two sets that do not meet, of one position, and how the least and the greatest
 -- change with the set. Assumes nothing.
-use Prim.Native.Nat.{ℕ, zero, suc, _+_, _≤_, _<_, min, max}
+use Prim.Native.Nat.{ℕ, zero, suc, _≤_, _<_, min, max}
 use mathlib.Core.Bool.{Bool, true, false, cond, _||_, true≢false, false≢true}
 use mathlib.Core.Logic.{_⊎_, inl, inr, ⊎-elim}
 use mathlib.Core.Path.{_≡_, refl, sym, ap, subst, _∙_}
-use native.Mathlib.Nat.{not-suc-le-zero, add-assoc, add-comm}
+use native.Mathlib.Nat.{not-suc-le-zero}
 use native.Mathlib.Omega.{arith}
 use lib.Dec.{eqb}
 use borrow.Author.Tests.{eqb-true, eq-eqb, ne-eqb}
-use Rattle.sets.specs.Sets.{Positions, Inside, count}
-use Rattle.sets.specs.Gather.{gather, least, greatest, first-in}
+use Rattle.sets.specs.Sets.{Positions, Inside}
+use Rattle.sets.specs.Gather.{gather, first-in}
 use Rattle.sets.proofs.Tests.{last-or-below, le-or-lt}
 
 -- what is gathered depends on the positions below n only
@@ -17,16 +17,6 @@ pub gather-ext : (n : ℕ) (op : ℕ → ℕ → ℕ) (e : ℕ) (f : ℕ → ℕ
 unfolding gather
 gather-ext zero op e f s t h = refl
 gather-ext (suc n) op e f s t h = cc (h n (omega arith), gather-ext n op e f s t (λ q b. h q (omega arith)))
-
-one-more : (b : Bool) (k g : ℕ) → k ≡ g → cond b 1 0 + k ≡ cond b (1 + g) g
-one-more true k g h = omega arith
-one-more false k g h = omega arith
-
--- a count is gathered by addition
-pub count-gather : (n : ℕ) (s : Positions) → count n s ≡ gather n _+_ 0 (λ (q : ℕ). 1) s
-unfolding count gather
-count-gather zero s = refl
-count-gather (suc n) s = one-more (s n) (count n s) (gather n _+_ 0 (λ (q : ℕ). 1) s) (count-gather n s)
 
 module _ (op : ℕ → ℕ → ℕ) (assoc : (a b c : ℕ) → op (op a b) c ≡ op a (op b c)) (comm : (a b : ℕ) → op a b ≡ op b a) where
   join-one : (a b : Bool) (x r u v : ℕ) → (a ≡ true → b ≡ false) → r ≡ op u v → cond (a || b) (op x r) r ≡ op (cond a (op x u) u) (cond b (op x v) v)
@@ -36,12 +26,12 @@ module _ (op : ℕ → ℕ → ℕ) (assoc : (a b c : ℕ) → op (op a b) c ≡
   join-one false false x r u v d h = h
 
   -- of two sets that do not meet, what is gathered is that of the one joined with that of the other
-  pub gather-union : (n e : ℕ) (f : ℕ → ℕ) (s t : Positions) → op e e ≡ e → ((q : ℕ) → s q ≡ true → t q ≡ false) → gather n op e f (λ (q : ℕ). s q || t q) ≡ op (gather n op e f s) (gather n op e f t)
+  pub gather-union : (n e : ℕ) (f : ℕ → ℕ) (s t : Positions) → op e e ≡ e → ((q : ℕ) → q < n → s q ≡ true → t q ≡ false) → gather n op e f (λ (q : ℕ). s q || t q) ≡ op (gather n op e f s) (gather n op e f t)
   unfolding gather
   gather-union zero e f s t idem d = sym idem
   gather-union (suc n) e f s t idem d =
-      join-one (s n) (t n) (f n) (gather n op e f (λ (q : ℕ). s q || t q)) (gather n op e f s) (gather n op e f t) (d n)
-      (gather-union n e f s t idem d)
+      join-one (s n) (t n) (f n) (gather n op e f (λ (q : ℕ). s q || t q)) (gather n op e f s) (gather n op e f t) (d n (omega arith))
+      (gather-union n e f s t idem (λ q b. d q (omega arith)))
 
 pub gather-none : (n : ℕ) (op : ℕ → ℕ → ℕ) (e : ℕ) (f : ℕ → ℕ) (s : Positions) → ((q : ℕ) → q < n → s q ≡ false) → gather n op e f s ≡ e
 unfolding gather
@@ -120,20 +110,3 @@ first-in-le n s q b h = min-le n n (λ (q : ℕ). q) s q b h
 pub first-in-holds : (n : ℕ) (s : Positions) → first-in n s < n → s (first-in n s) ≡ true
 first-in-holds n s b =
     ⊎-elim (λ e. absurd (omega arith)) (λ w. rw (w .3) (w .2)) (min-found n n (λ (q : ℕ). q) s)
-
--- the two ends and the count of two sets that do not meet
-module _ (n : ℕ) (s t : Positions) (apart : (q : ℕ) → s q ≡ true → t q ≡ false) where
-  pub least-union : (f : ℕ → ℕ) → least n f (λ (q : ℕ). s q || t q) ≡ min (least n f s) (least n f t)
-  least-union f = gather-union min (λ a b c. omega arith) (λ a b. omega arith) n n f s t (omega arith) apart
-
-  pub greatest-union : (f : ℕ → ℕ) → greatest n f (λ (q : ℕ). s q || t q) ≡ max (greatest n f s) (greatest n f t)
-  greatest-union f = gather-union max (λ a b c. omega arith) (λ a b. omega arith) n 0 f s t (omega arith) apart
-
-  pub count-union : count n (λ (q : ℕ). s q || t q) ≡ count n s + count n t
-  count-union =
-      cc (
-        count-gather n (λ (q : ℕ). s q || t q),
-        count-gather n s,
-        count-gather n t,
-        gather-union _+_ add-assoc add-comm n 0 (λ (q : ℕ). 1) s t (omega arith) apart,
-      )

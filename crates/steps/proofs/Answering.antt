@@ -1,29 +1,20 @@
 -- How the tests of parsing decide its answer, and what the lent steps then hold.
-use Prim.Native.Nat.{ℕ, _+_, _≤_}
+use Prim.Native.Nat.{ℕ, _+_}
 use mathlib.Core.Path.{_≡_, ap}
-use mathlib.Core.Bool.{true, false, _&&_}
+use mathlib.Core.Bool.{true, false}
 use mathlib.Core.List.{List}
-use lib.Dec.{leb}
 use lib.ListN.{length, take, drop}
 use lib.Seq.{sets}
-use borrow.Author.Tests.{eq-eqb, ne-eqb, leb-true}
+use borrow.Author.Tests.{eq-eqb, ne-eqb}
 use Rattle.causes.specs.declared.Cause.{Cause}
 use Rattle.causes.specs.declared.Cause.the-variants.{Attribute, Steps as BadSteps, StepsFile}
-use Rattle.causes.proofs.Laws.{both-true}
 use Rattle.steps.specs.Fields.{attribute-of}
 use Rattle.steps.specs.Lines.{lines, well-formed, thresholds}
-use Rattle.calls.specs.Judging.{all-good, steps-good}
-use Rattle.opening.specs.Residue.{rising}
+use Rattle.calls.specs.Judging.{steps-good}
 use Rattle.steps.specs.Answer.{attribute-in, steps-in, parse-answer, parsed-number, steps-after}
 use Rattle.steps.specs.declared.Parsed.{Parsed}
 use Rattle.steps.specs.declared.Parsed.the-variants.{Steps, Refused}
 use Rattle.steps.proofs.Splitting.{FirstLine}
-
-pub steps-few : (steps : List ℕ) → steps-good steps ≡ true → length steps ≤ 256
-unfolding steps-good
-steps-few steps e =
-    let sized = both-true (leb 1 (length steps) && leb (length steps) 256) (rising 0 steps && all-good steps) e .0 in
-    leb-true (length steps) 256 (both-true (leb 1 (length steps)) (leb (length steps) 256) sized .1)
 
 -- what holds of the answer and the lent steps after a call
 abbrev pub Called : List ℕ → List ℕ → Parsed → List ℕ → Type 0

@@ -1,13 +1,13 @@
 -- What an accepted steps file gives: an attribute, a step list, and where its thresholds stand in the lent steps.
 use Prim.Native.Nat.{ℕ, _≤_}
-use mathlib.Core.Path.{_≡_, sym, _∙_}
+use mathlib.Core.Path.{_≡_, _∙_}
 use mathlib.Core.Bool.{Bool, true, false, cond, not}
 use mathlib.Core.List.{List, _++_}
 use native.Mathlib.Nat.{zero-add}
 use native.Mathlib.Omega.{arith}
 use lib.Dec.{eqb}
-use lib.ListN.{length, take, drop}
-use lib.Seq.{sets-eq, take-at}
+use lib.ListN.{length, drop}
+use lib.Seq.{sets-eq}
 use borrow.Author.Tests.{not-true, eqb-false}
 use Rattle.causes.specs.Causes.{must}
 use Rattle.causes.specs.declared.Cause.{Cause}
@@ -16,10 +16,10 @@ use Rattle.causes.proofs.Refusing.{must-passed}
 use Rattle.steps.specs.Fields.{same, area, height, width, attribute-of}
 use Rattle.steps.specs.Lines.{lines, word-on, well-formed}
 use Rattle.calls.specs.Judging.{steps-good}
+use Rattle.calls.proofs.Accepted.{step-list}
 use Rattle.steps.specs.Answer.{attribute-in, steps-in, parse-answer, steps-after}
 use Rattle.steps.specs.declared.Parsed.{Parsed}
 use Rattle.steps.specs.declared.Parsed.the-variants.{Steps, Refused}
-use Rattle.steps.proofs.Answering.{steps-few}
 
 -- a test that did not refuse
 must-steps : (b : Bool) (cause : Cause) (answer : Parsed) (attribute count : ℕ) → must Refused b cause answer ≡ Steps attribute count → (b ≡ true) × (answer ≡ Steps attribute count)
@@ -63,7 +63,7 @@ accepted-file file attribute count e =
       attribute-within = omega (arith, attribute-most (word-on (lines file)));
       step-list = c .0;
       total = as-many;
-      few-steps = omega (arith, steps-few (steps-in file) (c .0));
+      few-steps = omega (arith, step-list (steps-in file) (c .0) .not-more);
     }
 
 -- the first `count` of 256 lent entries are the listed thresholds, the others as they were
@@ -73,10 +73,3 @@ accepted-steps file lent attribute count size e =
     let a = accepted-file file attribute count e in
     let few : length (steps-in file) ≤ length lent = omega (arith, a .few-steps, a .total) in
     rw (e, a .total) (sets-eq (steps-in file) lent 0 (omega arith) ∙ rw (zero-add (length (steps-in file))))
-
--- so the first `count` entries, lent on, are a step list
-pub accepted-list : (file lent : List ℕ) (attribute count : ℕ) → length lent ≡ 256 → parse-answer file ≡ Steps attribute count → take count (steps-after file lent) ≡ steps-in file
-accepted-list file lent attribute count size e =
-    rw
-    (accepted-steps file lent attribute count size e)
-    (take-at (steps-in file) (drop count lent) count (sym (accepted-file file attribute count e .total)))

@@ -1,21 +1,18 @@
 -- The digits of a number, as a steps file has them: digits alone, no leading zero, at most as many as asked, and of that value.
 use Prim.Native.Nat.{ℕ, zero, suc, _+_, _*_, _-_, _/_, _%_, _^_, _≤_, _<_}
 use mathlib.Core.Path.{_≡_, refl, _∙_, ap}
-use mathlib.Core.Bool.{Bool, true, false, _&&_, _||_}
+use mathlib.Core.Bool.{Bool, true, false, _&&_}
 use mathlib.Core.List.{List, [], _∷_, _++_}
 use native.Mathlib.Nat.{pow-suc, div-lt-iff-lt-mul, add-sub-cancel-left}
 use native.Mathlib.Omega.{arith}
 use lib.Dec.{eqb, leb, ltb}
 use lib.ListN.{length, getD}
 use borrow.Author.Tests.{lt-ltb, ltb-true, ltb-false, le-leb, ne-eqb}
+use Rattle.sets.proofs.Tests.{or-right}
 use Rattle.causes.proofs.Laws.{both-true}
 use Rattle.pgm.specs.Write.{decimal}
 use Rattle.pgm.proofs.Decimals.{length-decimal}
 use Rattle.steps.specs.Fields.{all-between, field, is-number, value-after}
-
-or-true : (b : Bool) → (b || true) ≡ true
-or-true true = refl
-or-true false = refl
 
 value-append : (v : ℕ) (a b : List ℕ) → value-after v (a ++ b) ≡ value-after (value-after v a) b
 unfolding value-after
@@ -101,4 +98,4 @@ decimal-number x some h =
       s .digits,
       ne-eqb (getD (decimal 7 x) 0 0) 48 n,
     )
-    (or-true (eqb (length (decimal 7 x)) 1))
+    (or-right (eqb (length (decimal 7 x)) 1) true refl)

@@ -5,10 +5,11 @@ use native.Mathlib.Omega.{arith}
 use denote.Ref.{now}
 use borrow.Author.Tests.{not-true, not-false}
 use borrow.Author.Needs.{needs}
+use Rattle.calls.proofs.Accepted.{step-list}
 use Rattle.steps.specs.Lines.{well-formed}
 use Rattle.steps.proofs.Splitting.{FirstLine, first-line}
 use Rattle.steps.proofs.Shaping.{well-formed-ended, well-formed-first, well-formed-others}
-use Rattle.steps.proofs.Answering.{steps-few, malformed, unknown-word, bad-steps, accepted-stored, refused-kept}
+use Rattle.steps.proofs.Answering.{malformed, unknown-word, bad-steps, accepted-stored, refused-kept}
 use Rattle.steps.proofs.parse.Statement.{statement}
 use Rattle.steps.proofs.parse.Tie as tie
 
@@ -53,7 +54,7 @@ add-put-steps c = omega (arith, first (c .before .before .before .before .before
 
 put-steps-requires : tie.Need-put-steps-requires
 put-steps-requires c κs =
-    (well-formed-others _ (first (c .before .before .before .before .before .before)) (shape (c .before .before .before .before .before .before .before)), steps-few _ (sym (c .before .before .good-steps .ensures) ∙ not-false _ (c .before .if3 .left)))
+    (well-formed-others _ (first (c .before .before .before .before .before .before)) (shape (c .before .before .before .before .before .before .before)), step-list _ (sym (c .before .before .good-steps .ensures) ∙ not-false _ (c .before .if3 .left)) .not-more)
 
 returns-4 : tie.Need-returns-4
 returns-4 c =
