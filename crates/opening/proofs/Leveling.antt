@@ -1,4 +1,4 @@
--- An opening is a leveling, and keeps the flat zones of a picture.
+-- An opening is a leveling, and keeps the flat zones of a picture. Levelings compose.
 use Prim.Native.Nat.{ℕ, suc, _≤_, _<_}
 use mathlib.Core.Bool.{true}
 use mathlib.Core.Logic.{⊎-elim}
@@ -13,12 +13,23 @@ use Rattle.opening.proofs.Components.{level-neighbour}
 use Rattle.opening.proofs.Opened.{opened-ge, opened-le, opened-above, opened-kept}
 
 module _ (n : ℕ) (adj : Adjacency) where
+  -- a picture is a leveling of itself
+  pub leveling-self : (g : ℕ → ℕ) → Leveling n adj g g
+  leveling-self g p q below-p below-q near falls = (omega arith, omega arith)
+
   -- only the new greys of the n pixels count
   pub leveling-ext : (old f g : ℕ → ℕ) → ((p : ℕ) → p < n → f p ≡ g p) → Leveling n adj old f → Leveling n adj old g
   leveling-ext old f g same leveling p q below-p below-q near falls =
       let same-p : f p ≡ g p = same p below-p in
       let same-q : f q ≡ g q = same q below-q in
       let (low, high) = leveling p q below-p below-q near (omega arith) in
+      (omega arith, omega arith)
+
+  -- a leveling of a leveling is a leveling
+  pub leveling-trans : (f g h : ℕ → ℕ) → Leveling n adj f g → Leveling n adj g h → Leveling n adj f h
+  leveling-trans f g h first second p q below-p below-q near falls =
+      let (low, high) = second p q below-p below-q near falls in
+      let (low₁, high₁) = first p q below-p below-q near (omega arith) in
       (omega arith, omega arith)
 
   module _ (symm : Symmetric adj) (keeps : Keeps) (up : Upward n keeps) (g : ℕ → ℕ) where

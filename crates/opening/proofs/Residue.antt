@@ -1,5 +1,5 @@
--- Residues: each opening of a rising list is at most the one before, so that the residues add up to the grey less
--- the last opening. What the largest residue and its place are is determined.
+-- Residues: each opening of a rising list is at most the one before, so that every residue is a true difference and they add up to the
+-- grey less the last opening. What the largest residue and its place are is determined.
 use Prim.Native.Nat.{ℕ, zero, suc, _+_, _≤_, _<_}
 use mathlib.Core.Bool.{true}
 use mathlib.Core.List.{List, [], _∷_}
@@ -20,6 +20,14 @@ use Rattle.opening.proofs.Threshold.{opened-zero, opened-falls}
 abbrev pub Falling : ℕ → List ℕ → Type 0
 Falling grey [] = Unit {0}
 Falling grey (next ∷ rest) = (next ≤ grey) × Falling next rest
+
+-- a fall is a true difference: with the later grey it makes up the earlier one
+pub falls-true : (grey : ℕ) (l : List ℕ) → Falling grey l → (i : ℕ) → i < length l
+    → getD (falls-from grey l) i 0 + getD l i 0 ≡ getD (grey ∷ l) i 0
+unfolding falls-from
+falls-true grey [] f i b = absurd (omega arith)
+falls-true grey (next ∷ rest) f zero b = omega (arith, f .0)
+falls-true grey (next ∷ rest) f (suc i) b = falls-true next rest (f .1) i (omega arith)
 
 -- all falls and the last grey add up to the first
 pub falls-total : (grey : ℕ) (l : List ℕ) → Falling grey l → total (falls-from grey l) + last-of grey l ≡ grey
