@@ -1,7 +1,7 @@
 -- What the calls on a picture answer and write. A picture is the list of its greys by position; what is lent comes in as a list, and
 -- a refused call leaves it as it was.
 use Prim.Native.Nat.{ℕ, _*_}
-use mathlib.Core.List.{List}
+use mathlib.Core.List.{List, [], _∷_}
 use lib.ListN.{length}
 use Rattle.sets.specs.Sets.{table}
 use Rattle.grid.specs.Neighbours.{edge-neighbours}
@@ -60,10 +60,10 @@ built w h a picture lent =
     (build-verdict w h a (length picture) (length lent))
     (number-of-nodes (w * h) (edge-neighbours w) (grey picture))
 
--- the number of an answer: 0 for a number of nodes, else that of the cause
-abbrev pub built-number : Built → ℕ
-built-number (Nodes nodes) = 0
-built-number (Not-built cause) = number-of cause
+-- "this paper's number and values for each enum case": 0 and the number of nodes, or the number of the cause
+abbrev pub built-numbers : Built → List ℕ
+built-numbers (Nodes nodes) = 0 ∷ nodes ∷ []
+built-numbers (Not-built cause) = number-of cause ∷ []
 
 -- the verdict on an opening call and on a map call, with what they are lent
 abbrev pub opening-judged : ℕ → ℕ → ℕ → ℕ → List ℕ → List ℕ → List ℕ → Verdict

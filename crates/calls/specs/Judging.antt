@@ -66,7 +66,7 @@ abbrev pub accepted : Verdict → Bool
 accepted Accepted = true
 accepted (Refused cause) = false
 
--- the number that a call answers: that of the cause, 0 where the call is accepted
-abbrev pub verdict-number : Verdict → ℕ
-verdict-number Accepted = 0
-verdict-number (Refused cause) = number-of cause
+-- "this paper's number and values for each enum case": the number of an answer, 0 where the call is accepted, which has no value
+abbrev pub verdict-numbers : Verdict → List ℕ
+verdict-numbers Accepted = 0 ∷ []
+verdict-numbers (Refused cause) = number-of cause ∷ []

@@ -1,7 +1,7 @@
 -- The claim about whole chains: a chain's picture against the single opening, both as levelings, and the chain's maps.
 use Prim.Native.Nat.{ℕ, _*_, _≤_, _<_}
 use mathlib.Core.Bool.{true, false}
-use mathlib.Core.List.{List}
+use mathlib.Core.List.{List, [], _∷_}
 use mathlib.Core.Logic.{_↔_}
 use mathlib.Core.Path.{_≡_, refl, sym, _∙_, ap, subst}
 use native.Mathlib.Omega.{arith}
@@ -21,7 +21,7 @@ use Rattle.opening.proofs.Threshold.{at-least-up, opened-zero}
 use Rattle.opening.proofs.Agree.{opened-equal}
 use Rattle.causes.specs.Causes.{number-of}
 use Rattle.causes.specs.declared.Cause.{Cause}
-use Rattle.calls.specs.Judging.{steps-good, accepted as is-accepted, verdict-number}
+use Rattle.calls.specs.Judging.{steps-good, accepted as is-accepted, verdict-numbers}
 use Rattle.calls.specs.declared.Verdict.{Verdict}
 use Rattle.calls.specs.declared.Verdict.the-variants.{Accepted, Refused}
 use Rattle.calls.proofs.Accepted.{bounded, step-list}
@@ -31,12 +31,12 @@ use Rattle.chain.proofs.Handed.{Opened-at, opened-picture-at, output-ac
 
 -- what a refused call answers
 refused-number : (judged : Verdict) → is-accepted judged ≡ false
-    → (cause : Cause) × (judged ≡ Refused cause) × (verdict-number judged ≡ number-of cause)
+    → (cause : Cause) × (judged ≡ Refused cause) × (verdict-numbers judged ≡ number-of cause ∷ [])
 refused-number Accepted e = let clash : _≡_ {A = ℕ} 0 1 = cc in absurd (omega arith)
 refused-number (Refused cause) e = (cause, refl, refl)
 
 refused-answer : (given : List ℕ) (call : Call) → accepted given call ≡ false
-    → (cause : Cause) × (verdict given call ≡ Refused cause) × (answered given call ≡ number-of cause) × (handed-on given call ≡ given)
+    → (cause : Cause) × (verdict given call ≡ Refused cause) × (answered given call ≡ number-of cause ∷ []) × (handed-on given call ≡ given)
 unfolding accepted answered
 refused-answer given call refused =
     let (cause, judged, number) = refused-number (verdict given call) refused in

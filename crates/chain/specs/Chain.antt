@@ -15,7 +15,7 @@ use Rattle.opening.specs.Residue.{largest, largest-place}
 use Rattle.causes.specs.Causes.{number-of}
 use Rattle.causes.specs.Sides.{sides-fit}
 use Rattle.causes.specs.declared.Cause.{Cause}
-use Rattle.calls.specs.Judging.{steps-good, accepted as is-accepted, verdict-number}
+use Rattle.calls.specs.Judging.{steps-good, accepted as is-accepted, verdict-numbers}
 use Rattle.calls.specs.Calls.{grey, opening-judged, opening-output, map-judged, map-residues, map-indices}
 use Rattle.calls.specs.declared.Verdict.{Verdict}
 use Rattle.calls.specs.declared.Verdict.the-variants.{Accepted, Refused}
@@ -38,9 +38,9 @@ verdict given call =
 unfoldable pub accepted : List ℕ → Call → Bool
 accepted given call = is-accepted (verdict given call)
 
--- the number that a call answers, 0 where it is accepted
-unfoldable pub answered : List ℕ → Call → ℕ
-answered given call = verdict-number (verdict given call)
+-- the number that a call answers, 0 where it is accepted; it has no values
+unfoldable pub answered : List ℕ → Call → List ℕ
+answered given call = verdict-numbers (verdict given call)
 
 -- the picture for the next call: the output of an accepted call; "a refused call [..] hands on the picture it was given"
 unfoldable pub handed-on : List ℕ → Call → List ℕ
@@ -120,7 +120,7 @@ pub record Claim (w h a : ℕ) (original : List ℕ) (calls : List Call) : Type 
   -- "A refused call answers the number due and hands on the picture it was given": due is the number of the cause that judging finds,
   -- the first that applies
   pub refused : (given : List ℕ) (call : Call) → accepted given call ≡ false
-      → (cause : Cause) × (verdict given call ≡ Refused cause) × (answered given call ≡ number-of cause) × (handed-on given call ≡ given)
+      → (cause : Cause) × (verdict given call ≡ Refused cause) × (answered given call ≡ number-of cause ∷ []) × (handed-on given call ≡ given)
   -- "The root is the node at the least grey: the whole picture." No other node is.
   pub root : (p : ℕ) → p < w * h → grey original p ≡ least-grey (w * h) (grey original) ↔ Whole w h original p
   -- the chain's picture and the single opening at t are equal exactly when no node other than the root has its attribute at or above

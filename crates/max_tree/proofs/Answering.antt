@@ -2,13 +2,13 @@
 -- the number of nodes. Assumes nothing.
 use Prim.Native.Nat.{ℕ, _*_}
 use mathlib.Core.Bool.{true}
-use mathlib.Core.List.{List, _++_}
+use mathlib.Core.List.{List, [], _∷_, _++_}
 use mathlib.Core.Path.{_≡_, refl, sym, ap, _∙_}
 use lib.ListN.{length, take, replicate}
 use Rattle.tree.specs.Tree.{workspace}
 use Rattle.causes.specs.declared.Cause.{Cause}
-use Rattle.calls.specs.Judging.{build-verdict, verdict-number}
-use Rattle.calls.specs.Calls.{built, built-number, call-workspace}
+use Rattle.calls.specs.Judging.{build-verdict}
+use Rattle.calls.specs.Calls.{built, built-numbers, call-workspace}
 use Rattle.calls.specs.declared.Verdict.{Verdict}
 use Rattle.calls.specs.declared.Verdict.the-variants.{Accepted, Refused}
 use Rattle.calls.specs.declared.Built.{Built}
@@ -24,9 +24,8 @@ whole w h a picture ws ws' nodes O e =
 -- the answer and the workspace of a building call
 abbrev pub Answered : ℕ → ℕ → ℕ → List ℕ → List ℕ → Built → List ℕ → Type 0
 Answered w h a picture lent answer left =
-    (answer ≡ built w h a picture lent)
-    × ((built-number answer ≡ verdict-number (build-verdict w h a (length picture) (length lent)))
-    × (left ≡ call-workspace (build-verdict w h a (length picture) (length lent)) w h a picture lent))
+    (built-numbers answer ≡ built-numbers (built w h a picture lent))
+    × (left ≡ call-workspace (build-verdict w h a (length picture) (length lent)) w h a picture lent)
 
 -- the verdict on a building call
 pub record Judged (w h a : ℕ) (picture lent : List ℕ) (verdict : Verdict) : Type 0 where
@@ -37,7 +36,7 @@ module _ {w h a : ℕ} {picture lent : List ℕ} {verdict : Verdict} (judged : J
   unfolding built call-workspace
   answered-refused {cause} refused =
       let is : build-verdict w h a (length picture) (length lent) ≡ Refused cause = sym (judged .same) ∙ refused in
-      rw is (refl, (refl, refl))
+      rw is (refl, refl)
 
   pub build-asked : verdict ≡ Accepted → Buildable w h picture lent
   build-asked accepted =
@@ -49,4 +48,4 @@ module _ {w h a : ℕ} {picture lent : List ℕ} {verdict : Verdict} (judged : J
   unfolding built call-workspace
   answered-accepted left nodes accepted W =
       let is : build-verdict w h a (length picture) (length lent) ≡ Accepted = sym (judged .same) ∙ accepted in
-      rw is (ap Nodes (W .number), (refl, W .left))
+      rw is (ap (λ (k : ℕ). 0 ∷ k ∷ []) (W .number), W .left)

@@ -4,8 +4,8 @@ ghost use mathlib.Core.List.{_++_};
 ghost use mathlib.Core.Path.{_≡_};
 ghost use Prim.Native.Nat.{_*_};
 ghost use lib.ListN.{length, take, replicate};
-ghost use Rattle.calls.specs.Judging.{build-verdict, verdict-number};
-ghost use Rattle.calls.specs.Calls.{built, built-number, call-workspace};
+ghost use Rattle.calls.specs.Judging.{build-verdict};
+ghost use Rattle.calls.specs.Calls.{built, built-numbers, call-workspace};
 ghost use Rattle.flood.specs.Calls.{Sized};
 ghost use Rattle.max_tree.specs.Building.{Buildable, Ordered, Whole};
 
@@ -69,9 +69,8 @@ pub fn build(
     attribute: u32,
     workspace: &mut [u32],
 ) -> calls::Built
-    ensures { λ r. ⌜ r ≡ built width height attribute (now (picture .entry)) (now (workspace .entry)) ⌝ }
-    ensures { λ r. ⌜ built-number r ≡ verdict-number (build-verdict width height attribute (length (now (picture .entry))) (length (now (workspace .entry)))) ⌝ }
-    ensures { λ _. ⌜ now (workspace .exit) ≡ call-workspace (build-verdict width height attribute (length (now (picture .entry))) (length (now (workspace .entry)))) width height attribute (now (picture .entry)) (now (workspace .entry)) ⌝ }
+    ensures answer { λ r. ⌜ built-numbers r ≡ built-numbers (built width height attribute (now (picture .entry)) (now (workspace .entry))) ⌝ }
+    ensures workspace { λ _. ⌜ now (workspace .exit) ≡ call-workspace (build-verdict width height attribute (length (now (picture .entry))) (length (now (workspace .entry)))) width height attribute (now (picture .entry)) (now (workspace .entry)) ⌝ }
 {
     let verdict = calls::judge(
         width,

@@ -12,7 +12,7 @@ use Rattle.grid.specs.Attributes.{attribute}
 use Rattle.grid.proofs.Attributes.{edge-symmetric, attribute-increasing, attribute-some}
 use Rattle.grid.proofs.Whole.{grid-whole}
 use Rattle.causes.specs.declared.Cause.{Cause}
-use Rattle.calls.specs.Judging.{threshold-good, call-verdict, verdict-number}
+use Rattle.calls.specs.Judging.{threshold-good, call-verdict, verdict-numbers}
 use Rattle.calls.specs.Calls.{grey, opened-picture, record-of, call-workspace, opening-judged, opening-output}
 use Rattle.calls.specs.declared.Verdict.{Verdict}
 use Rattle.calls.specs.declared.Verdict.the-variants.{Accepted, Refused}
@@ -59,17 +59,16 @@ judged-by w h a t picture lent output thresholds outputs verdict judged good ent
 -- what holds of the answer, the workspace and the output after a call
 abbrev pub Called : ℕ → ℕ → ℕ → ℕ → List ℕ → List ℕ → List ℕ → Verdict → List ℕ → List ℕ → Type 0
 Called w h a t picture lent output answer workspace written =
-    (answer ≡ opening-judged w h a t picture lent output)
-    × ((verdict-number answer ≡ verdict-number (opening-judged w h a t picture lent output))
+    (verdict-numbers answer ≡ verdict-numbers (opening-judged w h a t picture lent output))
     × ((workspace ≡ call-workspace (opening-judged w h a t picture lent output) w h a picture lent)
-    × (written ≡ opening-output w h a t picture lent output)))
+    × (written ≡ opening-output w h a t picture lent output))
 
 module _ {w h a t : ℕ} {picture lent output : List ℕ} {verdict : Verdict} (judged : Judged w h a t picture lent output verdict) where
   pub called-refused : {cause : Cause} → verdict ≡ Refused cause → Called w h a t picture lent output (Refused cause) lent output
   unfolding call-workspace opening-output
   called-refused {cause} refused =
       let is : opening-judged w h a t picture lent output ≡ Refused cause = sym (judged .same) ∙ refused in
-      rw is (refl, (refl, (refl, refl)))
+      rw is (refl, (refl, refl))
 
   module _ (accepted : verdict ≡ Accepted) where
     pub tests : Passed w h a (length picture) (threshold-good t) (length lent) (eqb (length output) (w * h))
@@ -101,4 +100,4 @@ module _ {w h a t : ℕ} {picture lent output : List ℕ} {verdict : Verdict} (j
         written
         (same ∙ same-size ∙ tests .a-byte-each)
         (rw (built, tests .a-byte-each) at found) in
-        rw is (refl, (refl, (built, opens)))
+        rw is (refl, (built, opens))

@@ -3,7 +3,7 @@
 ghost use Prim.Native.Nat.{_<_};
 ghost use mathlib.Core.Path.{_≡_};
 ghost use lib.ListN.{length};
-ghost use Rattle.calls.specs.Judging.{verdict-number};
+ghost use Rattle.calls.specs.Judging.{verdict-numbers};
 ghost use Rattle.calls.specs.Calls.{opening-judged, call-workspace, opening-output};
 ghost use Rattle.openings.specs.Climbing.{Climbable, From, Kept, Opened-to, Opened-before, Pass};
 
@@ -60,10 +60,9 @@ pub fn open(
     workspace: &mut [u32],
     output: &mut [u8],
 ) -> calls::Verdict
-    ensures { λ r. ⌜ r ≡ opening-judged width height attribute threshold (now (picture .entry)) (now (workspace .entry)) (now (output .entry)) ⌝ }
-    ensures { λ r. ⌜ verdict-number r ≡ verdict-number (opening-judged width height attribute threshold (now (picture .entry)) (now (workspace .entry)) (now (output .entry))) ⌝ }
-    ensures { λ r. ⌜ now (workspace .exit) ≡ call-workspace (opening-judged width height attribute threshold (now (picture .entry)) (now (workspace .entry)) (now (output .entry))) width height attribute (now (picture .entry)) (now (workspace .entry)) ⌝ }
-    ensures { λ r. ⌜ now (output .exit) ≡ opening-output width height attribute threshold (now (picture .entry)) (now (workspace .entry)) (now (output .entry)) ⌝ }
+    ensures answer { λ r. ⌜ verdict-numbers r ≡ verdict-numbers (opening-judged width height attribute threshold (now (picture .entry)) (now (workspace .entry)) (now (output .entry))) ⌝ }
+    ensures workspace { λ _. ⌜ now (workspace .exit) ≡ call-workspace (opening-judged width height attribute threshold (now (picture .entry)) (now (workspace .entry)) (now (output .entry))) width height attribute (now (picture .entry)) (now (workspace .entry)) ⌝ }
+    ensures output { λ _. ⌜ now (output .exit) ≡ opening-output width height attribute threshold (now (picture .entry)) (now (workspace .entry)) (now (output .entry)) ⌝ }
 {
     let thresholds = calls::threshold_good(threshold);
     let outputs = calls::entry_each(width, height, output.len());

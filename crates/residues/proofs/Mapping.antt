@@ -17,7 +17,7 @@ use Rattle.grid.proofs.Attributes.{edge-symmetric, attribute-some}
 use Rattle.tree.specs.Tree.{is-representative, number-of-nodes}
 use Rattle.tree.proofs.Words.{parent-at, attribute-at}
 use Rattle.causes.specs.declared.Cause.{Cause}
-use Rattle.calls.specs.Judging.{steps-good, call-verdict, verdict-number}
+use Rattle.calls.specs.Judging.{steps-good, call-verdict, verdict-numbers}
 use Rattle.calls.specs.Calls.{grey, record-of, call-workspace, map-judged, map-residues, map-indices}
 use Rattle.calls.specs.declared.Verdict.{Verdict}
 use Rattle.calls.specs.declared.Verdict.the-variants.{Accepted, Refused}
@@ -86,11 +86,10 @@ judged-by w h a steps picture lent residues indices thresholds outputs verdict j
 -- what holds of the answer, the workspace and the maps after a call
 abbrev pub Called : ℕ → ℕ → ℕ → List ℕ → List ℕ → List ℕ → List ℕ → List ℕ → Verdict → List ℕ → List ℕ → List ℕ → Type 0
 Called w h a steps picture lent residues indices answer left best index =
-    (answer ≡ map-judged w h a steps picture lent residues indices)
-    × ((verdict-number answer ≡ verdict-number (map-judged w h a steps picture lent residues indices))
+    (verdict-numbers answer ≡ verdict-numbers (map-judged w h a steps picture lent residues indices))
     × ((left ≡ call-workspace (map-judged w h a steps picture lent residues indices) w h a picture lent)
     × ((best ≡ map-residues w h a steps picture lent residues indices)
-    × (index ≡ map-indices w h a steps picture lent residues indices))))
+    × (index ≡ map-indices w h a steps picture lent residues indices)))
 
 module _ {w h a : ℕ} {steps picture lent residues indices : List ℕ} {verdict : Verdict}
     (judged : Judged w h a steps picture lent residues indices verdict) where
@@ -99,7 +98,7 @@ module _ {w h a : ℕ} {steps picture lent residues indices : List ℕ} {verdict
   unfolding call-workspace map-residues map-indices
   called-refused {cause} refused =
       let is : map-judged w h a steps picture lent residues indices ≡ Refused cause = sym (judged .same) ∙ refused in
-      rw is (refl, (refl, (refl, (refl, refl))))
+      rw is (refl, (refl, (refl, refl)))
 
   module _ (accepted : verdict ≡ Accepted) where
     tests : Passed w h a (length picture) (steps-good steps) (length lent) (eqb (length residues) (w * h) && eqb (length indices) (w * h))
@@ -161,4 +160,4 @@ module _ {w h a : ℕ} {steps picture lent residues indices : List ℕ} {verdict
           written .maps w h a (bounded w h (tests .sides) .wide) (tests .a-byte-each) (ordered-recorded w h a built) in
           let kept : take (2 * (w * h)) ws' ≡ take (2 * (w * h)) ws = front (w * h) ws ws' (rw (tests .a-byte-each) at (written .kept)) in
           let cleaned : left ≡ record-of w h a picture = cleared ∙ rw (tests .a-byte-each, kept) (record-cleared w h a built) in
-          rw is (refl, (refl, (cleaned, (maps .0, maps .1))))
+          rw is (refl, (cleaned, (maps .0, maps .1)))
