@@ -1,6 +1,5 @@
-// The five functions of libteldruf.a as a host calls them, over lent memory.
-
-use crate::lent::Lent;
+// The five functions of libteldruf.a as a host calls them. Each run is lent whole, as a slice; so
+// runs lent in one call are apart.
 
 extern "C" {
     fn teldruf_read_pgm(file: *const u8, file_len: usize, head: *mut u32) -> u64;
@@ -59,96 +58,85 @@ pub struct Frame {
     pub attribute: u32,
 }
 
-pub fn read_pgm(file: &Lent<u8>, head: &mut Lent<u32>) -> u64 {
-    assert_eq!(head.entries(), 4);
-    // Both runs are lent whole and apart; head has the four words that are written.
-    unsafe { teldruf_read_pgm(file.pointer(), file.entries(), head.pointer_to_write()) }
+pub fn read_pgm(file: &[u8], head: &mut [u32]) -> u64 {
+    assert_eq!(head.len(), 4);
+    unsafe { teldruf_read_pgm(file.as_ptr(), file.len(), head.as_mut_ptr()) }
 }
 
-pub fn write_pgm(
-    picture: &Lent<u8>,
-    width: u32,
-    height: u32,
-    maximum: u32,
-    buffer: &mut Lent<u8>,
-) -> u64 {
-    // Both runs are lent whole and apart.
+pub fn write_pgm(picture: &[u8], width: u32, height: u32, maximum: u32, buffer: &mut [u8]) -> u64 {
     unsafe {
         teldruf_write_pgm(
-            picture.pointer(),
-            picture.entries(),
+            picture.as_ptr(),
+            picture.len(),
             width,
             height,
             maximum,
-            buffer.pointer_to_write(),
-            buffer.entries(),
+            buffer.as_mut_ptr(),
+            buffer.len(),
         )
     }
 }
 
-pub fn build(picture: &Lent<u8>, frame: Frame, workspace: &mut Lent<u32>) -> u64 {
-    // Both runs are lent whole and apart.
+pub fn build(picture: &[u8], frame: Frame, workspace: &mut [u32]) -> u64 {
     unsafe {
         teldruf_build(
-            picture.pointer(),
-            picture.entries(),
+            picture.as_ptr(),
+            picture.len(),
             frame.width,
             frame.height,
             frame.attribute,
-            workspace.pointer_to_write(),
-            workspace.entries(),
+            workspace.as_mut_ptr(),
+            workspace.len(),
         )
     }
 }
 
 pub fn open(
-    picture: &Lent<u8>,
+    picture: &[u8],
     frame: Frame,
     threshold: u32,
-    workspace: &mut Lent<u32>,
-    output: &mut Lent<u8>,
+    workspace: &mut [u32],
+    output: &mut [u8],
 ) -> u64 {
-    // All runs are lent whole and apart.
     unsafe {
         teldruf_open(
-            picture.pointer(),
-            picture.entries(),
+            picture.as_ptr(),
+            picture.len(),
             frame.width,
             frame.height,
             frame.attribute,
             threshold,
-            workspace.pointer_to_write(),
-            workspace.entries(),
-            output.pointer_to_write(),
-            output.entries(),
+            workspace.as_mut_ptr(),
+            workspace.len(),
+            output.as_mut_ptr(),
+            output.len(),
         )
     }
 }
 
 pub fn map(
-    picture: &Lent<u8>,
+    picture: &[u8],
     frame: Frame,
-    steps: &Lent<u32>,
-    workspace: &mut Lent<u32>,
-    residue: &mut Lent<u8>,
-    index: &mut Lent<u16>,
+    steps: &[u32],
+    workspace: &mut [u32],
+    residue: &mut [u8],
+    index: &mut [u16],
 ) -> u64 {
-    // All runs are lent whole and apart.
     unsafe {
         teldruf_map(
-            picture.pointer(),
-            picture.entries(),
+            picture.as_ptr(),
+            picture.len(),
             frame.width,
             frame.height,
             frame.attribute,
-            steps.pointer(),
-            steps.entries(),
-            workspace.pointer_to_write(),
-            workspace.entries(),
-            residue.pointer_to_write(),
-            residue.entries(),
-            index.pointer_to_write(),
-            index.entries(),
+            steps.as_ptr(),
+            steps.len(),
+            workspace.as_mut_ptr(),
+            workspace.len(),
+            residue.as_mut_ptr(),
+            residue.len(),
+            index.as_mut_ptr(),
+            index.len(),
         )
     }
 }

@@ -64,16 +64,8 @@ impl<T: Entry> Lent<T> {
         lent
     }
 
-    pub fn pointer(&self) -> *const T {
-        self.cells[self.start..].as_ptr()
-    }
-
-    pub fn pointer_to_write(&mut self) -> *mut T {
-        self.cells[self.start..].as_mut_ptr()
-    }
-
-    pub fn entries(&self) -> usize {
-        self.entries
+    pub fn now_mut(&mut self) -> &mut [T] {
+        &mut self.cells[self.start..self.start + self.entries]
     }
 
     pub fn now(&self) -> &[T] {

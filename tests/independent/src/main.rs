@@ -4,8 +4,8 @@
 //   independent [--seed NUMBER] [--cases NUMBER] [--suites NAME,NAME..] [--program PATH]
 //
 // --cases is the number of small pictures, at least 1,000 so that every answer is met; the other
-// suites grow with it. The suites are table, every, calls, chains, files, large and program.
-// --program names the built program `basin`, which is then run in many folders.
+// suites grow with it. --suites names the suites to run, which are all of them unless it is given.
+// --program names the built program `basin`, which the suite program runs in many folders.
 
 mod calls;
 mod causes;
@@ -30,76 +30,103 @@ use report::Report;
 use std::process::ExitCode;
 use std::time::Instant;
 
+const USAGE: &str = "usage: independent [--seed NUMBER] [--cases NUMBER, at least 1000] \
+                     [--suites NAME,NAME..] [--program PATH]";
+const FEWEST_CASES: usize = 1000;
+
+type Suite = fn(&mut Report, &Options);
+
+const SUITES: [(&str, Suite); 7] = [
+    ("table", |r, o| table::run(r, o.seed)),
+    ("every", |r, o| every::run(r, o.seed)),
+    ("calls", |r, o| calls::run(r, o.seed, o.cases)),
+    ("chains", |r, o| chains::run(r, o.seed, o.cases / 4)),
+    ("files", |r, o| files::run(r, o.seed, o.cases * 2)),
+    ("large", |r, o| large::run(r, o.seed)),
+    (PROGRAM, |r, o| {
+        program::run(r, o.seed, (o.cases / 40).max(500), &o.program)
+    }),
+];
+const PROGRAM: &str = "program";
+
 struct Options {
     seed: u64,
     cases: usize,
-    suites: String,
-    program: Option<String>,
+    suites: Vec<String>,
+    program: String,
 }
 
-fn options() -> Option<Options> {
+fn number<N: std::str::FromStr>(text: &str) -> Result<N, String> {
+    text.parse()
+        .map_err(|_| format!("'{text}' is not a number"))
+}
+
+fn suites(list: &str) -> Result<Vec<String>, String> {
+    let known = SUITES.map(|(name, _)| name);
+    match list.split(',').find(|asked| !known.contains(asked)) {
+        Some(asked) => Err(format!(
+            "there is no suite '{asked}': the suites are {}",
+            known.join(", ")
+        )),
+        None => Ok(list.split(',').map(String::from).collect()),
+    }
+}
+
+/// What the words of the command line ask for, or what is wrong with them.
+fn options(mut words: impl Iterator<Item = String>) -> Result<Options, String> {
     let mut options = Options {
         seed: 1,
         cases: 40_000,
-        suites: String::from("table,every,calls,chains,files,large,program"),
-        program: None,
+        suites: SUITES.map(|(name, _)| String::from(name)).to_vec(),
+        program: String::new(),
     };
-    let mut words = std::env::args().skip(1);
     while let Some(word) = words.next() {
-        let value = words.next()?;
+        let mut value = || words.next().ok_or(format!("nothing after {word}"));
         match word.as_str() {
-            "--seed" => options.seed = value.parse().ok()?,
-            "--cases" => options.cases = value.parse().ok()?,
-            "--suites" => options.suites = value,
-            "--program" => options.program = Some(value),
-            _ => return None,
+            "--seed" => options.seed = number(&value()?)?,
+            "--cases" => options.cases = number(&value()?)?,
+            "--suites" => options.suites = suites(&value()?)?,
+            "--program" => options.program = value()?,
+            _ => return Err(format!("there is no option '{word}'")),
         }
     }
-    (options.cases >= 1000).then_some(options)
+    if options.cases < FEWEST_CASES {
+        return Err(format!("fewer cases than {FEWEST_CASES}"));
+    }
+    if options.program.is_empty() && options.suites.iter().any(|name| name == PROGRAM) {
+        return Err(format!("the suite {PROGRAM} needs --program PATH"));
+    }
+    Ok(options)
 }
 
-/// Runs a suite if it was asked for, and prints its counts.
-fn suite(report: &mut Report, options: &Options, name: &str, run: impl FnOnce(&mut Report)) {
-    if !options.suites.split(',').any(|asked| asked == name) {
-        return;
-    }
+/// Runs a suite and prints its counts. One that checks nothing fails.
+fn run(report: &mut Report, options: &Options, (name, suite): (&str, Suite)) {
     let start = Instant::now();
     let (passed, failed) = (report.passed, report.failed);
-    run(report);
+    suite(report, options);
+    if (report.passed, report.failed) == (passed, failed) {
+        report.check(Some(String::from("nothing was checked")), || name.into());
+    }
     let (passed, failed) = (report.passed - passed, report.failed - failed);
     let seconds = start.elapsed().as_secs_f64();
     println!("{name}: {passed} passed, {failed} failed, {seconds:.1} s");
 }
 
-fn run(options: &Options) -> Report {
-    let (seed, cases) = (options.seed, options.cases);
-    let mut report = Report::default();
-    let r = &mut report;
-    println!("seed {seed}, {cases} small pictures");
-    suite(r, options, "table", |r| table::run(r, seed));
-    suite(r, options, "every", |r| every::run(r, seed));
-    suite(r, options, "calls", |r| calls::run(r, seed, cases));
-    suite(r, options, "chains", |r| chains::run(r, seed, cases / 4));
-    suite(r, options, "files", |r| files::run(r, seed, cases * 2));
-    suite(r, options, "large", |r| large::run(r, seed));
-    if let Some(program) = &options.program {
-        let cases = (cases / 40).max(500);
-        suite(r, options, "program", |r| {
-            program::run(r, seed, cases, program)
-        });
-    }
-    report
-}
-
 fn main() -> ExitCode {
-    let Some(options) = options() else {
-        eprintln!(
-            "usage: independent [--seed NUMBER] [--cases NUMBER, at least 1000] \
-             [--suites NAME,NAME..] [--program PATH]"
-        );
-        return ExitCode::from(2);
+    let options = match options(std::env::args().skip(1)) {
+        Ok(options) => options,
+        Err(fault) => {
+            eprintln!("{fault}\n{USAGE}");
+            return ExitCode::from(2);
+        }
     };
-    let report = run(&options);
+    println!("seed {}, {} small pictures", options.seed, options.cases);
+    let mut report = Report::default();
+    for suite in SUITES {
+        if options.suites.iter().any(|asked| asked == suite.0) {
+            run(&mut report, &options, suite);
+        }
+    }
     println!("{} passed, {} failed", report.passed, report.failed);
     if report.failed == 0 {
         ExitCode::SUCCESS

@@ -31,13 +31,13 @@ impl Report {
         *self.answers.entry((call, cause)).or_default() += 1;
     }
 
-    /// Every cause that a call has, and its acceptance (0), was due at least once.
-    pub fn check_all_met(&mut self, call: &'static str, causes: &[u64]) {
+    /// Every one of these answers, causes or acceptance (0), was due at least once.
+    pub fn check_all_met(&mut self, call: &'static str, answers: &[u64]) {
         let mut text = format!("  {call}:");
-        for cause in [&[0], causes].concat() {
-            let times = self.answers.get(&(call, cause)).copied().unwrap_or(0);
-            text += &format!(" {cause}×{times}");
-            let fault = (times == 0).then(|| format!("{call}: answer {cause} was never due"));
+        for answer in answers {
+            let times = self.answers.get(&(call, *answer)).copied().unwrap_or(0);
+            text += &format!(" {answer}×{times}");
+            let fault = (times == 0).then(|| format!("{call}: answer {answer} was never due"));
             self.check(fault, || String::from("coverage"));
         }
         println!("{text}");
