@@ -331,7 +331,7 @@ pub fn damage_write(random: &mut Random, call: &mut Writing, cause: u32) {
 }
 
 /// No cause, each alone and each pair, as numbers of the list.
-fn sets(causes: &[u32]) -> Vec<Vec<u32>> {
+pub fn sets(causes: &[u32]) -> Vec<Vec<u32>> {
     let mut sets: Vec<Vec<u32>> = vec![vec![]];
     for (i, first) in causes.iter().enumerate() {
         sets.push(vec![*first]);

@@ -18,6 +18,7 @@ mod files;
 mod interface;
 mod large;
 mod lent;
+mod long;
 mod pgm;
 mod pictures;
 mod program;
@@ -25,6 +26,7 @@ mod random;
 mod report;
 mod steps;
 mod table;
+mod vast;
 
 use report::Report;
 use std::process::ExitCode;
@@ -36,13 +38,14 @@ const FEWEST_CASES: usize = 1000;
 
 type Suite = fn(&mut Report, &Options);
 
-const SUITES: [(&str, Suite); 7] = [
+const SUITES: [(&str, Suite); 8] = [
     ("table", |r, o| table::run(r, o.seed)),
     ("every", |r, o| every::run(r, o.seed)),
     ("calls", |r, o| calls::run(r, o.seed, o.cases)),
     ("chains", |r, o| chains::run(r, o.seed, o.cases / 4)),
     ("files", |r, o| files::run(r, o.seed, o.cases * 2)),
     ("large", |r, o| large::run(r, o.seed)),
+    ("long", |r, o| long::run(r, o.seed)),
     (PROGRAM, |r, o| {
         program::run(r, o.seed, (o.cases / 40).max(500), &o.program)
     }),

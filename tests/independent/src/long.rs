@@ -1,0 +1,226 @@
+// Runs that are too long by 2^32 entries and such. A call that looked at the low 32 bits of a
+// length, or of its bytes, would find it right.
+
+use crate::calls::{first_fault, shown, step_list, Call};
+use crate::causes::{refusal, Named};
+use crate::damage;
+use crate::files::{damage_read, damage_write, good_file, good_writing, sets, Writing};
+use crate::interface;
+use crate::lent::Lent;
+use crate::pgm;
+use crate::pictures;
+use crate::random::Random;
+use crate::report::{self, answer_fault, refused, Report};
+use crate::vast::Vast;
+
+/// 2^30 words and 2^31 entries of 16 bits have 2^32 bytes.
+const SURPLUSES: [usize; 5] = [1 << 30, 1 << 31, 1 << 32, 1 << 33, 3 << 32];
+
+/// How many entries too many each run of a call has: every choice of one run or more, and for each
+/// of its runs every surplus.
+fn choices<const RUNS: usize>() -> Vec<[usize; RUNS]> {
+    let mut choices = Vec::new();
+    for chosen in 1..1 << RUNS {
+        for turn in 0..SURPLUSES.len() {
+            let surplus = |run: usize| SURPLUSES[(turn + run) % SURPLUSES.len()];
+            choices.push(std::array::from_fn(|run| match chosen >> run & 1 {
+                0 => 0,
+                _ => surplus(run),
+            }));
+        }
+    }
+    choices
+}
+
+/// The cause due; a call with a run too long is never accepted.
+fn due(report: &mut Report, name: &'static str, named: &Named) -> u64 {
+    let cause = refusal(named).expect_err("a run is too long");
+    report.met(name, u64::from(cause));
+    refused(cause)
+}
+
+fn check_build(report: &mut Report, random: &mut Random, call: &Call, surplus: [usize; 2]) {
+    let picture = Vast::holding(random, &call.picture, surplus[0]);
+    let mut workspace = Vast::dirty(random, call.workspace, surplus[1]);
+    let answer = interface::build(picture.now(), call.frame, workspace.now_mut());
+    let named = Named {
+        picture: picture.now().len(),
+        workspace: workspace.now().len(),
+        ..call.named(None, 0)
+    };
+    let fault = first_fault([
+        answer_fault(answer, due(report, "long build", &named)),
+        picture.fault("picture", &[]),
+        workspace.fault("workspace", &[]),
+    ]);
+    report.check(fault, || {
+        format!("surplus {surplus:?}, {}", shown("build", call))
+    });
+}
+
+fn check_open(report: &mut Report, random: &mut Random, call: &Call, surplus: [usize; 3]) {
+    let picture = Vast::holding(random, &call.picture, surplus[0]);
+    let mut workspace = Vast::dirty(random, call.workspace, surplus[1]);
+    let mut output = Vast::dirty(random, call.outputs[0], surplus[2]);
+    let answer = interface::open(
+        picture.now(),
+        call.frame,
+        call.steps[0],
+        workspace.now_mut(),
+        output.now_mut(),
+    );
+    let named = Named {
+        picture: picture.now().len(),
+        workspace: workspace.now().len(),
+        outputs: &[output.now().len()],
+        ..call.named(Some(&call.steps[..1]), 1)
+    };
+    let fault = first_fault([
+        answer_fault(answer, due(report, "long open", &named)),
+        picture.fault("picture", &[]),
+        workspace.fault("workspace", &[]),
+        output.fault("output", &[]),
+    ]);
+    report.check(fault, || {
+        format!("surplus {surplus:?}, {}", shown("open", call))
+    });
+}
+
+fn check_map(report: &mut Report, random: &mut Random, call: &Call, surplus: [usize; 5]) {
+    let picture = Vast::holding(random, &call.picture, surplus[0]);
+    let steps = Vast::holding(random, &call.steps, surplus[1]);
+    let mut workspace = Vast::dirty(random, call.workspace, surplus[2]);
+    let mut residue = Vast::dirty(random, call.outputs[0], surplus[3]);
+    let mut index = Vast::dirty(random, call.outputs[1], surplus[4]);
+    let answer = interface::map(
+        picture.now(),
+        call.frame,
+        steps.now(),
+        workspace.now_mut(),
+        residue.now_mut(),
+        index.now_mut(),
+    );
+    let named = Named {
+        picture: picture.now().len(),
+        workspace: workspace.now().len(),
+        outputs: &[residue.now().len(), index.now().len()],
+        ..call.named(Some(steps.now()), 2)
+    };
+    let fault = first_fault([
+        answer_fault(answer, due(report, "long map", &named)),
+        picture.fault("picture", &[]),
+        steps.fault("steps", &[]),
+        workspace.fault("workspace", &[]),
+        residue.fault("residue", &[]),
+        index.fault("index", &[]),
+    ]);
+    report.check(fault, || {
+        format!("surplus {surplus:?}, {}", shown("map", call))
+    });
+}
+
+type Check<const RUNS: usize> = fn(&mut Report, &mut Random, &Call, [usize; RUNS]);
+
+/// Runs too long in calls that are good otherwise, and in calls that other causes apply to.
+fn on_pictures<const RUNS: usize>(report: &mut Report, random: &mut Random, check: Check<RUNS>) {
+    for surplus in choices() {
+        for (case, causes) in sets(&[1, 2, 3, 4, 5, 6]).into_iter().enumerate() {
+            let picture = pictures::small(random, case);
+            let attribute = random.between(1, 3) as u32;
+            let steps = step_list(random, &[1, 2, 3, 5, 8, 13, 40]);
+            let mut call = Call::good(&picture, attribute, steps);
+            for cause in causes {
+                damage::apply(random, &mut call, cause);
+            }
+            check(report, random, &call, surplus);
+        }
+    }
+}
+
+fn check_read(report: &mut Report, random: &mut Random, file: &Vast<u8>) {
+    let mut head = Lent::dirty(random, 4);
+    let answer = interface::read_pgm(file.now(), head.now_mut());
+    let due = pgm::read(file.now());
+    report.met("long read", due.map_or_else(u64::from, |_| 0));
+    let words = due
+        .ok()
+        .map(|h| [h.width, h.height, h.maximum, h.raster as u32]);
+    let fault = first_fault([
+        answer_fault(answer, due.map_or_else(refused, |_| 0)),
+        file.fault("file", &[]),
+        head.fault("head", words.as_ref().map(|w| &w[..])),
+    ]);
+    report.check(fault, || format!("read {}", report::shown(file.now())));
+}
+
+fn on_files(report: &mut Report, random: &mut Random) {
+    for case in 0..14 {
+        for surplus in SURPLUSES {
+            for causes in sets(&[12, 11, 1, 10, 9, 8]) {
+                let mut file = good_file(random, case);
+                for cause in causes {
+                    damage_read(random, &mut file, cause);
+                }
+                let file = Vast::holding(random, &file.bytes(), surplus);
+                check_read(report, random, &file);
+            }
+        }
+    }
+}
+
+/// A good file whose comment has 2^32 bytes, all 0, so that the raster starts beyond them.
+fn on_long_comment(report: &mut Report, random: &mut Random) {
+    let (start, end) = (b"P5\n#", b"\n3 2\n255\n\x00\x0a#\x0d\xff ");
+    let comment = 1 << 32;
+    let mut file = Vast::zero(start.len(), comment + end.len());
+    file.put(0, start);
+    file.put(start.len() + comment, end);
+    check_read(report, random, &file);
+}
+
+/// A longer buffer is as good as another; a picture that is too long is refused.
+fn check_write(report: &mut Report, random: &mut Random, call: &Writing, surplus: [usize; 2]) {
+    let (width, height, maximum) = (call.width, call.height, call.maximum);
+    let picture = Vast::holding(random, &call.picture, surplus[0]);
+    let mut buffer = Vast::dirty(random, call.room, surplus[1]);
+    let answer = interface::write_pgm(picture.now(), width, height, maximum, buffer.now_mut());
+    let due = pgm::write(picture.now(), width, height, maximum, buffer.now().len());
+    let cause = due.as_ref().err().copied();
+    report.met("long write", cause.map_or(0, u64::from));
+    let file = due.unwrap_or_default();
+    let fault = first_fault([
+        answer_fault(answer, cause.map_or(file.len() as u64, refused)),
+        picture.fault("picture", &[]),
+        buffer.fault("buffer", &file),
+    ]);
+    report.check(fault, || format!("surplus {surplus:?}, write {call:?}"));
+}
+
+fn on_buffers(report: &mut Report, random: &mut Random) {
+    for case in 0..7 {
+        for surplus in choices() {
+            for causes in sets(&[7, 12, 10, 2, 1]) {
+                let mut call = good_writing(random, case);
+                for cause in causes {
+                    damage_write(random, &mut call, cause);
+                }
+                check_write(report, random, &call, surplus);
+            }
+        }
+    }
+}
+
+pub fn run(report: &mut Report, seed: u64) {
+    let mut random = Random::for_case(seed, 8, 0);
+    on_pictures(report, &mut random, check_build);
+    on_pictures(report, &mut random, check_open);
+    on_pictures(report, &mut random, check_map);
+    on_files(report, &mut random);
+    on_long_comment(report, &mut random);
+    on_buffers(report, &mut random);
+    report.check_all_met("long build", &[1, 2, 3, 5]);
+    report.check_all_met("long open", &[1, 2, 3, 4, 5, 6]);
+    report.check_all_met("long map", &[1, 2, 3, 4, 5, 6]);
+    report.check_all_met("long read", &[0, 8, 9, 10, 1, 11]);
+    report.check_all_met("long write", &[0, 1, 2, 10, 12]);
+}
