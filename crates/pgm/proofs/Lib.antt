@@ -3,6 +3,7 @@ pub mod Scan
 pub mod Stores
 pub mod Decimals
 pub mod Judging
+pub mod Answers
 pub mod Files
 pub mod Parts
 pub mod Shape

@@ -1,7 +1,7 @@
 -- What reading a file answers: the picture that it holds, or the first cause that applies, in the order 8, 9, 10, 1, 11, 12.
 use Prim.Native.Nat.{ℕ, _*_, _-_}
 use mathlib.Core.Bool.{Bool, _&&_}
-use mathlib.Core.List.{List, []}
+use mathlib.Core.List.{List, [], _∷_}
 use lib.ListN.{length, take, drop}
 use lib.Dec.{leb, eqb}
 use Rattle.causes.specs.declared.Cause.the-variants.{Sides, Sign, Header as BadHeader, Maximum, RasterLength, Sample}
@@ -30,10 +30,10 @@ judged file (Read width height maximum start) =
 unfoldable pub read-answer : List ℕ → Found
 read-answer file = must Refused (starts-with-sign file) Sign (judged file (header-at file (length sign)))
 
--- the number of an answer: 0 for a picture, else that of the cause
-abbrev pub found-number : Found → ℕ
-found-number (Picture width height maximum start) = 0
-found-number (Refused cause) = number-of cause
+-- "this paper's number and values": the number of an answer, 0 where nothing is refused, then its values
+abbrev pub found-numbers : Found → List ℕ
+found-numbers (Picture width height maximum start) = 0 ∷ width ∷ height ∷ maximum ∷ start ∷ []
+found-numbers (Refused cause) = number-of cause ∷ []
 
 -- the raster of an accepted file, "a part of the file"; nothing of a refused one
 abbrev pub raster-part : List ℕ → Found → List ℕ

@@ -33,10 +33,10 @@ write-answer picture width height maximum room =
     (must Refused (leb (length (pgm-file picture width height maximum)) room) Buffer
     (Bytes (length (pgm-file picture width height maximum)))))))
 
--- the number of an answer: 0 for a number of bytes, else that of the cause
-abbrev pub written-number : Written → ℕ
-written-number (Bytes total) = 0
-written-number (Refused cause) = number-of cause
+-- "this paper's number and values": the number of an answer, 0 where nothing is refused, then its value
+abbrev pub written-numbers : Written → List ℕ
+written-numbers (Bytes total) = 0 ∷ total ∷ []
+written-numbers (Refused cause) = number-of cause ∷ []
 
 -- the file at the start of the buffer, "bytes after them are untouched"; a refusal leaves the whole buffer as it was
 abbrev pub buffer-with : Written → List ℕ → List ℕ → List ℕ

@@ -7,8 +7,8 @@ ghost use lib.Dec.{eqb};
 ghost use lib.ListN.{length};
 ghost use lib.Seq.{sets};
 ghost use Rattle.causes.specs.Sides.{sides-fit};
-ghost use Rattle.pgm.specs.Read.{maximum-fits, judged, read-answer, found-number, raster-of};
-ghost use Rattle.pgm.specs.Write.{decimal, pgm-file, write-answer, written-number, buffer-after, Fields};
+ghost use Rattle.pgm.specs.Read.{maximum-fits, judged, read-answer, found-numbers, raster-of};
+ghost use Rattle.pgm.specs.Write.{decimal, pgm-file, write-answer, written-numbers, buffer-after, Fields};
 
 mod digits;
 mod header;
@@ -99,8 +99,7 @@ fn judge(file: &[u8], found: Header) -> Found
 
 // Reads a file: its picture, or the first cause that applies, in the order 8, 9, 10, 1, 11, 12.
 pub fn read(file: &[u8]) -> Found
-    ensures { λ r. ⌜ r ≡ read-answer (now (file .entry)) ⌝ }
-    ensures { λ r. ⌜ found-number r ≡ found-number (read-answer (now (file .entry))) ⌝ }
+    ensures answer { λ r. ⌜ found-numbers r ≡ found-numbers (read-answer (now (file .entry))) ⌝ }
 {
     if header::has_sign(file) {
         judge(file, reader::header_of(file))
@@ -177,8 +176,8 @@ fn writable(picture: &[u8], width: u32, height: u32, maximum: u32, room: usize) 
 // Writes a picture's file into the buffer, and answers the number of its bytes; those after them stay as they were. A refusal writes
 // nothing.
 pub fn write(picture: &[u8], width: u32, height: u32, maximum: u32, buffer: &mut [u8]) -> Written
-    ensures { λ r. ⌜ (r ≡ write-answer (now (picture .entry)) width height maximum (length (now (buffer .entry)))) × (now (buffer .exit) ≡ buffer-after (now (picture .entry)) width height maximum (now (buffer .entry))) ⌝ }
-    ensures { λ r. ⌜ written-number r ≡ written-number (write-answer (now (picture .entry)) width height maximum (length (now (buffer .entry)))) ⌝ }
+    ensures answer { λ r. ⌜ written-numbers r ≡ written-numbers (write-answer (now (picture .entry)) width height maximum (length (now (buffer .entry)))) ⌝ }
+    ensures buffer { λ _. ⌜ now (buffer .exit) ≡ buffer-after (now (picture .entry)) width height maximum (now (buffer .entry)) ⌝ }
 {
     match writable(picture, width, height, maximum, buffer.len()) {
         Written::Bytes(needed) => {

@@ -1,6 +1,6 @@
 -- `pgm::read` meets its contract. Assumes nothing.
 use mathlib.Core.Path.{_∙_, sym, ap}
-use Rattle.pgm.specs.Read.{judged, found-number}
+use Rattle.pgm.specs.Read.{judged, found-numbers}
 use Rattle.pgm.proofs.Judging.{read-signed, read-unsigned}
 use borrow.Author.Needs.{needs}
 use Rattle.pgm.proofs.read.Statement.{statement}
@@ -17,10 +17,10 @@ judge-requires c κs = search needs
 
 returns : tie.Need-returns
 returns c =
-    let e = c .judge .ensures ∙ ap (judged _) (c .before .header-of .ensures) ∙ read-signed _ (sym (c .before .before .before .has-sign .ensures) ∙ c .before .before .if1 .taken) in (e, ap found-number e)
+    ap found-numbers (c .judge .ensures ∙ ap (judged _) (c .before .header-of .ensures) ∙ read-signed _ (sym (c .before .before .before .has-sign .ensures) ∙ c .before .before .if1 .taken))
 
 returns-2 : tie.Need-returns-2
-returns-2 c = let e = read-unsigned _ (sym (c .before .has-sign .ensures) ∙ c .if1 .left) in (e, ap found-number e)
+returns-2 c = ap found-numbers (read-unsigned _ (sym (c .before .has-sign .ensures) ∙ c .if1 .left))
 
 pub read-spec : {M : Type 1} → statement M
 read-spec =

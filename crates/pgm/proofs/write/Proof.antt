@@ -1,7 +1,7 @@
 -- `pgm::write` meets its contract. Assumes nothing.
 use Rattle.pgm.proofs.Judging.{writable-is, fields-fit, buffer-written, buffer-kept}
 use mathlib.Core.Path.{_∙_, sym, ap}
-use Rattle.pgm.specs.Write.{written-number}
+use Rattle.pgm.specs.Write.{written-numbers}
 use borrow.Author.Needs.{needs}
 use Rattle.pgm.proofs.write.Statement.{statement}
 use Rattle.pgm.proofs.write.Tie as tie
@@ -26,12 +26,12 @@ same-length c = search needs
 returns : tie.Need-returns
 returns c =
     let e = sym (c .before .before .before .before .before .needed .given .1) ∙ c .before .before .before .before .before .before .before .writable .ensures in
-    ((e, c .before .before .put-file .ensures ∙ buffer-written _ _ _ _ _ _ (sym e)), ap written-number e)
+    (ap written-numbers e, c .before .before .put-file .ensures ∙ buffer-written _ _ _ _ _ _ (sym e))
 
 returns-2 : tie.Need-returns-2
 returns-2 c =
     let e = sym (c .before .cause .given .1) ∙ c .before .before .before .writable .ensures in
-    ((e, buffer-kept _ _ _ _ _ _ (sym e)), ap written-number e)
+    (ap written-numbers e, buffer-kept _ _ _ _ _ _ (sym e))
 
 pub write-spec : {M : Type 1} → statement M
 write-spec =

@@ -1,0 +1,36 @@
+-- Different causes have different numbers: a number gives its cause back. Assumes nothing.
+use Prim.Native.Nat.{ℕ, _-_}
+use mathlib.Core.Path.{_≡_, refl, sym, ap, _∙_}
+use mathlib.Core.List.{List, [], _∷_}
+use lib.ListN.{getD}
+use Rattle.causes.specs.Causes.{number-of}
+use Rattle.causes.specs.declared.Cause.{Cause}
+use Rattle.causes.specs.declared.Cause.the-variants.{Sides, PictureLength, Attribute, Steps, Workspace, Output, Buffer, Sign, Header, Maximum, RasterLength, Sample, StepsFile, TooLarge, NotRead}
+
+-- the causes in the order of their numbers, from 1
+abbrev in-order : List Cause
+in-order =
+    Sides ∷ PictureLength ∷ Attribute ∷ Steps ∷ Workspace ∷ Output ∷ Buffer ∷ Sign ∷ Header ∷ Maximum ∷ RasterLength ∷ Sample ∷ StepsFile ∷ TooLarge ∷ NotRead ∷ []
+
+abbrev cause-of : ℕ → Cause
+cause-of number = getD in-order (number - 1) Sides
+
+cause-back : (c : Cause) → cause-of (number-of c) ≡ c
+cause-back Sides = refl
+cause-back PictureLength = refl
+cause-back Attribute = refl
+cause-back Steps = refl
+cause-back Workspace = refl
+cause-back Output = refl
+cause-back Buffer = refl
+cause-back Sign = refl
+cause-back Header = refl
+cause-back Maximum = refl
+cause-back RasterLength = refl
+cause-back Sample = refl
+cause-back StepsFile = refl
+cause-back TooLarge = refl
+cause-back NotRead = refl
+
+pub number-determined : (c d : Cause) → number-of c ≡ number-of d → c ≡ d
+number-determined c d e = sym (cause-back c) ∙ ap cause-of e ∙ cause-back d
