@@ -11,7 +11,7 @@ use Rattle.causes.specs.declared.Cause.the-variants.{Attribute, Steps as BadSte
 use Rattle.steps.specs.Fields.{attribute-of}
 use Rattle.steps.specs.Lines.{lines, well-formed, thresholds}
 use Rattle.calls.specs.Judging.{steps-good}
-use Rattle.steps.specs.Answer.{attribute-in, steps-in, parse-answer, parsed-number, steps-after}
+use Rattle.steps.specs.Answer.{attribute-in, steps-in, parse-answer, parsed-numbers, steps-after}
 use Rattle.steps.specs.declared.Parsed.{Parsed}
 use Rattle.steps.specs.declared.Parsed.the-variants.{Steps, Refused}
 use Rattle.steps.proofs.Splitting.{FirstLine}
@@ -19,7 +19,7 @@ use Rattle.steps.proofs.Splitting.{FirstLine}
 -- what holds of the answer and the lent steps after a call
 abbrev pub Called : List ℕ → List ℕ → Parsed → List ℕ → Type 0
 Called file lent answer now =
-    ((answer ≡ parse-answer file) × (now ≡ steps-after file lent)) × (parsed-number answer ≡ parsed-number (parse-answer file))
+    (parsed-numbers answer ≡ parsed-numbers (parse-answer file)) × (now ≡ steps-after file lent)
 
 module _ (file : List ℕ) where
   pub malformed : well-formed file ≡ false → Refused StepsFile ≡ parse-answer file
@@ -52,8 +52,8 @@ module _ (file : List ℕ) where
 
           pub accepted-stored : (lent now : List ℕ) → now ≡ sets lent 0 (thresholds (lines (drop (end + 1) file))) → Called file lent (Steps attribute count) now
           unfolding steps-after
-          accepted-stored lent now e = ((accepted, rw (← accepted, steps-others) e), ap parsed-number accepted)
+          accepted-stored lent now e = (ap parsed-numbers accepted, rw (← accepted, steps-others) e)
 
   pub refused-kept : {cause : Cause} (lent : List ℕ) → Refused cause ≡ parse-answer file → Called file lent (Refused cause) lent
   unfolding steps-after
-  refused-kept lent e = ((e, rw (← e)), ap parsed-number e)
+  refused-kept lent e = (ap parsed-numbers e, rw (← e))

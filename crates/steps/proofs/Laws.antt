@@ -1,6 +1,7 @@
--- What an accepted steps file gives: an attribute, a step list, and where its thresholds stand in the lent steps.
+-- What an answer's numbers tell, and what an accepted steps file gives: an attribute, a step list, and where its thresholds stand in the
+-- lent steps.
 use Prim.Native.Nat.{ℕ, _≤_}
-use mathlib.Core.Path.{_≡_, _∙_}
+use mathlib.Core.Path.{_≡_, _∙_, ap}
 use mathlib.Core.Bool.{Bool, true, false, cond, not}
 use mathlib.Core.List.{List, _++_}
 use native.Mathlib.Nat.{zero-add}
@@ -9,17 +10,25 @@ use lib.Dec.{eqb}
 use lib.ListN.{length, drop}
 use lib.Seq.{sets-eq}
 use borrow.Author.Tests.{not-true, eqb-false}
-use Rattle.causes.specs.Causes.{must}
+use Rattle.causes.specs.Causes.{number-of, must}
 use Rattle.causes.specs.declared.Cause.{Cause}
 use Rattle.causes.specs.declared.Cause.the-variants.{Attribute, Steps as BadSteps, StepsFile}
 use Rattle.causes.proofs.Refusing.{must-passed}
+use Rattle.causes.proofs.Numbers.{number-determined}
 use Rattle.steps.specs.Fields.{same, area, height, width, attribute-of}
 use Rattle.steps.specs.Lines.{lines, word-on, well-formed}
 use Rattle.calls.specs.Judging.{steps-good}
 use Rattle.calls.proofs.Accepted.{step-list}
-use Rattle.steps.specs.Answer.{attribute-in, steps-in, parse-answer, steps-after}
+use Rattle.steps.specs.Answer.{attribute-in, steps-in, parse-answer, parsed-numbers, steps-after}
 use Rattle.steps.specs.declared.Parsed.{Parsed}
 use Rattle.steps.specs.declared.Parsed.the-variants.{Steps, Refused}
+
+-- the number and the values of an answer determine it: a promise of them is one of the answer
+pub parsed-determined : (r s : Parsed) → parsed-numbers r ≡ parsed-numbers s → r ≡ s
+parsed-determined (Steps a k) (Steps b l) e = cc
+parsed-determined (Steps a k) (Refused d) e = absurd (let z : _≡_ {A = ℕ} 0 1 = cc in omega arith)
+parsed-determined (Refused c) (Steps b l) e = absurd (let z : _≡_ {A = ℕ} 0 1 = cc in omega arith)
+parsed-determined (Refused c) (Refused d) e = let n : number-of c ≡ number-of d = cc in ap Refused (number-determined c d n)
 
 -- a test that did not refuse
 must-steps : (b : Bool) (cause : Cause) (answer : Parsed) (attribute count : ℕ) → must Refused b cause answer ≡ Steps attribute count → (b ≡ true) × (answer ≡ Steps attribute count)

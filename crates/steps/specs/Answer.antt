@@ -1,7 +1,7 @@
 -- What parsing a steps file answers, and what the lent steps then hold.
 use Prim.Native.Nat.{ℕ}
 use mathlib.Core.Bool.{not}
-use mathlib.Core.List.{List}
+use mathlib.Core.List.{List, [], _∷_}
 use lib.ListN.{length}
 use lib.Seq.{sets}
 use lib.Dec.{eqb}
@@ -27,10 +27,10 @@ parse-answer file =
     (must Refused (not (eqb (attribute-in file) 0)) Attribute
     (must Refused (steps-good (steps-in file)) BadSteps (Steps (attribute-in file) (length (steps-in file)))))
 
--- the number of an answer: 0 for steps, else that of the cause
-abbrev pub parsed-number : Parsed → ℕ
-parsed-number (Steps attribute count) = 0
-parsed-number (Refused cause) = number-of cause
+-- "this paper's number and values": the number of an answer, 0 where nothing is refused, then its values
+abbrev pub parsed-numbers : Parsed → List ℕ
+parsed-numbers (Steps attribute count) = 0 ∷ attribute ∷ count ∷ []
+parsed-numbers (Refused cause) = number-of cause ∷ []
 
 -- the thresholds are stored from the first entry on, and the entries after them stay; a refusal leaves every entry as it was
 abbrev pub steps-with : Parsed → List ℕ → List ℕ → List ℕ

@@ -6,7 +6,7 @@ ghost use lib.ListN.{length, drop};
 ghost use lib.Seq.{sets};
 ghost use Rattle.steps.specs.Lines.{lines, thresholds, StepLines};
 ghost use Rattle.calls.specs.Judging.{steps-good};
-ghost use Rattle.steps.specs.Answer.{parse-answer, parsed-number, steps-after};
+ghost use Rattle.steps.specs.Answer.{parse-answer, parsed-numbers, steps-after};
 
 mod fields;
 mod lines;
@@ -64,8 +64,8 @@ fn put_steps(file: &[u8], from: usize, steps: &mut [u32; 256]) -> usize
 
 // Parses a file: its attribute and its steps, of which the thresholds are stored, or the first cause that applies, in the order 13, 3, 4.
 pub fn parse(file: &[u8], steps: &mut [u32; 256]) -> Parsed
-    ensures { λ r. ⌜ (r ≡ parse-answer (now (file .entry))) × (now (steps .exit) ≡ steps-after (now (file .entry)) (now (steps .entry))) ⌝ }
-    ensures { λ r. ⌜ parsed-number r ≡ parsed-number (parse-answer (now (file .entry))) ⌝ }
+    ensures answer { λ r. ⌜ parsed-numbers r ≡ parsed-numbers (parse-answer (now (file .entry))) ⌝ }
+    ensures steps { λ _. ⌜ now (steps .exit) ≡ steps-after (now (file .entry)) (now (steps .entry)) ⌝ }
 {
     if !lines::well_formed(file) {
         return Parsed::Refused(Cause::StepsFile);
