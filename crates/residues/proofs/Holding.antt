@@ -1,29 +1,28 @@
 -- What the words hold and what a store changes: the words of the first three parts stay, the node that is stored is settled, and every
 -- other node stays settled unless it or its parent is that one.
-use Prim.Native.Nat.{ℕ, _+_, _-_, _*_, _%_, _≤_, _<_}
-use mathlib.Core.List.{List, _++_, append-nil}
+use Prim.Native.Nat.{ℕ, _+_, _*_, _%_, _≤_, _<_}
+use mathlib.Core.List.{List, _++_}
 use mathlib.Core.Logic.{⊎-elim}
 use mathlib.Core.Path.{_≡_, sym, ap, _∙_}
 use lib.Dec.{eqb}
-use lib.ListN.{length, getD, set, take, drop}
-use lib.Seq.{getD-take, getD-set-same, getD-set-other, drop-at, drop-length, length-take-le}
+use lib.ListN.{length, getD, set, take}
+use lib.Seq.{getD-take, getD-set-same, getD-set-other, take-at, drop-at, length-take-le}
 use borrow.Author.Tests.{eqb-true, eqb-false}
-use borrow.Rule.Slice.PartMut.{postOf, putMid, post-is}
+use borrow.Rule.Slice.PartMut.{postOf, putMid}
 use Rattle.sets.proofs.Tests.{decided}
 use Rattle.residues.specs.Settle.{Stored}
-use Rattle.residues.specs.Passes.{place-at, Settled}
+use Rattle.residues.specs.Passes.{place-at, runs-of, Settled}
 use Rattle.residues.proofs.Settling.{place-of-root, word-never, best-never, index-never}
 
 -- what is read of the words
 pub words-read : (n : ℕ) (ws : List ℕ) (x : ℕ) → x < 3 * n → getD ws x 0 ≡ getD (take (3 * n) ws) x 0
 words-read n ws x b = sym (getD-take (3 * n) ws x 0 b)
 
--- what is put back from the fourth part on
-pub runs-back : (n : ℕ) (ws runs : List ℕ) → 3 * n ≤ length ws → drop (3 * n) (putMid (3 * n) (length ws - 3 * n) ws runs) ≡ runs
-runs-back n ws runs l =
-    drop-at (take (3 * n) ws) (runs ++ postOf (3 * n) (length ws - 3 * n) ws) (3 * n) (length-take-le (3 * n) ws l)
-    ∙ ap (λ (rest : List ℕ). runs ++ rest) (post-is (3 * n) (length ws) ws l ∙ drop-length ws)
-    ∙ append-nil runs
+-- what is put back as the fourth part
+pub runs-back : (n : ℕ) (ws runs : List ℕ) → 3 * n ≤ length ws → length runs ≡ n → runs-of n (putMid (3 * n) n ws runs) ≡ runs
+runs-back n ws runs l size =
+    ap (take n) (drop-at (take (3 * n) ws) (runs ++ postOf (3 * n) n ws) (3 * n) (length-take-le (3 * n) ws l))
+    ∙ take-at runs (postOf (3 * n) n ws) n size
 
 -- a store at r leaves a node settled that is not r and whose parent is not r
 pub settled-other : {n : ℕ} {picture steps words runs residues indices : List ℕ} (r v x y q : ℕ) → (q ≡ r → ⊥) → (getD words q 0 ≡ r → ⊥)

@@ -3,7 +3,7 @@ use Prim.Native.Nat.{ℕ, _+_, _*_, _≤_, _<_}
 use mathlib.Core.List.{List}
 use mathlib.Core.Path.{_≡_, refl, ap, subst, _∙_}
 use native.Mathlib.Omega.{arith}
-use lib.ListN.{length, getD, take, drop}
+use lib.ListN.{length, getD, take}
 use borrow.Author.Tests.{lt-ltb}
 use Rattle.sets.proofs.Laws.{table-ext}
 use Rattle.grid.specs.Neighbours.{edge-neighbours}
@@ -11,7 +11,7 @@ use Rattle.grid.specs.Attributes.{attribute}
 use Rattle.grid.proofs.Attributes.{edge-symmetric, attribute-increasing, attribute-some}
 use Rattle.grid.proofs.Whole.{grid-whole}
 use Rattle.calls.specs.Calls.{grey, residue-map, index-map}
-use Rattle.residues.specs.Passes.{Stands, Given, Settled, Progress, holder, spread-over, Spreadable, Ready}
+use Rattle.residues.specs.Passes.{Stands, Given, runs-of, Settled, Progress, holder, spread-over, Spreadable, Ready}
 use Rattle.residues.specs.Recorded.{Recorded, Written}
 use Rattle.residues.proofs.Holding.{words-read}
 use Rattle.residues.proofs.Right.{maps-right}
@@ -29,10 +29,10 @@ progress-begins ready = record {
 module _ {n m : ℕ} {picture steps words ws residues indices : List ℕ} (given : Given n m picture steps words)
     (prog : Progress n picture steps words ws residues indices m) where
   -- at the end every node is settled
-  settled-all : (q : ℕ) → q < n → Stands n words q → Settled n picture steps words (drop (3 * n) ws) residues indices q
+  settled-all : (q : ℕ) → q < n → Stands n words q → Settled n picture steps words (runs-of n ws) residues indices q
   settled-all q b stands =
       let (j, l, e) = given .climb .order .place q b (lt-ltb 0 _ stands) in
-      subst (λ (p : ℕ). Settled n picture steps words (drop (3 * n) ws) residues indices p) e (prog .done j l)
+      subst (λ (p : ℕ). Settled n picture steps words (runs-of n ws) residues indices p) e (prog .done j l)
 
   word-kept : (x : ℕ) → x < 3 * n → getD ws x 0 ≡ getD words x 0
   word-kept x b = words-read n ws x b ∙ ap (λ (l : List ℕ). getD l x 0) (prog .kept)

@@ -7,16 +7,15 @@ use mathlib.Core.Path.{_≡_, sym, ap, subst, _∙_}
 use native.Mathlib.Nat.{le-of-eq}
 use native.Mathlib.Omega.{arith}
 use lib.Dec.{eqb}
-use lib.ListN.{length, getD, take, drop, length-set, length-drop}
+use lib.ListN.{length, getD, take, drop, length-set, length-take, length-drop}
 use lib.Seq.{getD-set-same}
 use borrow.Author.Tests.{eqb-true, eqb-false, lt-ltb, ltb-true}
-use borrow.Rule.Slice.PartMut.{putMid, take-put, same-len-mid}
+use borrow.Rule.Slice.PartMut.{putMid, mid-len, take-put, same-len-mid}
 use Rattle.sets.proofs.Tests.{decided, le-or-lt, last-or-below}
-use Rattle.causes.proofs.Lists.{to-end}
 use Rattle.flood.specs.Flooding.{order-of}
 use Rattle.max_tree.proofs.Listing.{listed-rises, listed-apart}
 use Rattle.residues.specs.Settle.{place-of, Settleable, Stored}
-use Rattle.residues.specs.Passes.{place-at, Stands, Climbable, Given, Settled, Progress, Visitable}
+use Rattle.residues.specs.Passes.{place-at, runs-of, Stands, Climbable, Given, Settled, Progress, Visitable}
 use Rattle.residues.proofs.Settling.{word-low}
 use Rattle.residues.proofs.Holding.{words-read, runs-back, settled-other, settled-here}
 
@@ -34,7 +33,7 @@ module _ {n m : ℕ} {picture steps words ws residues indices : List ℕ} {i : �
 
   -- a darker representative is settled
   darker-settled : (q : ℕ) → q < n → Stands n words q → getD picture q 0 < getD picture (order-of n words i) 0
-      → Settled n picture steps words (drop (3 * n) ws) residues indices q
+      → Settled n picture steps words (runs-of n ws) residues indices q
   darker-settled q c stands dark =
       let (j, l, e) = climb .order .place q c (lt-ltb 0 _ stands) in
       let before : j < i =
@@ -42,12 +41,12 @@ module _ {n m : ℕ} {picture steps words ws residues indices : List ℕ} {i : �
       (λ (late : i ≤ j). absurd (omega (arith, listed-rises (climb .order) i j late l, ap (λ (p : ℕ). getD picture p 0) e)))
       (λ early. early)
       (le-or-lt i j) in
-      subst (λ (p : ℕ). Settled n picture steps words (drop (3 * n) ws) residues indices p) e (prog .done j before)
+      subst (λ (p : ℕ). Settled n picture steps words (runs-of n ws) residues indices p) e (prog .done j before)
 
-  runs-size : length (drop (3 * n) ws) ≡ 3 * n
-  runs-size = omega (arith, length-drop (3 * n) ws, prog .ws-size)
+  runs-size : length (runs-of n ws) ≡ n
+  runs-size = simp (length-take, length-drop) (omega (arith, prog .ws-size))
 
-  pub turn-ready : Settleable picture steps (drop (3 * n) ws) residues indices (order-of n words i) (getD words (order-of n words i) 0)
+  pub turn-ready : Settleable picture steps (runs-of n ws) residues indices (order-of n words i) (getD words (order-of n words i) 0)
   turn-ready =
       let r : ℕ = order-of n words i in
       let parent : ℕ = getD words r 0 in
@@ -78,21 +77,21 @@ module _ {n m : ℕ} {picture steps words ws residues indices : List ℕ} {i : �
             omega (arith, ap (λ (p : ℕ). getD picture p 0) e, listed-rises (climb .order) j i (omega arith) b),
       )
 
-  -- the node is settled in the part from the fourth on
+  -- the node is settled in the fourth part
   module _ (byte : getD picture (order-of n words i) 0 < 256)
       (runs' residues' indices' : List ℕ)
-      (stored : Stored picture (drop (3 * n) ws) residues indices runs' residues' indices' (length steps)
+      (stored : Stored picture (runs-of n ws) residues indices runs' residues' indices' (length steps)
       (place-at n steps words (order-of n words i)) (order-of n words i) (getD words (order-of n words i) 0))
     where
       settled-now : Settled n picture steps words runs' residues' indices' (order-of n words i)
       settled-now =
           let r : ℕ = order-of n words i in
-          let inside : (r < length (drop (3 * n) ws)) × (r < length residues) × (r < length indices) =
+          let inside : (r < length (runs-of n ws)) × (r < length residues) × (r < length indices) =
           omega (arith, at-inside, runs-size, prog .residues-size, prog .indices-size) in
           settled-here
           inside
           (rw
-          (ap (λ (l : List ℕ). getD l r 0) (stored .word) ∙ getD-set-same (drop (3 * n) ws) r _ 0 (inside .0))
+          (ap (λ (l : List ℕ). getD l r 0) (stored .word) ∙ getD-set-same (runs-of n ws) r _ 0 (inside .0))
           (word-low (getD words (n + r) 0) turn-ready byte))
           stored
 
@@ -103,7 +102,7 @@ module _ {n m : ℕ} {picture steps words ws residues indices : List ℕ} {i : �
           (stored .word, stored .best, stored .index)
           (settled-other (order-of n words i) _ _ _ (order-of n words j) off apart (prog .done j early))
 
-      pub turn-settles : (ws' : List ℕ) → take (3 * n) ws' ≡ take (3 * n) ws → drop (3 * n) ws' ≡ runs' → length ws' ≡ length ws
+      pub turn-settles : (ws' : List ℕ) → take (3 * n) ws' ≡ take (3 * n) ws → runs-of n ws' ≡ runs' → length ws' ≡ length ws
           → Progress n picture steps words ws' residues' indices' (i + 1)
       turn-settles ws' front back size =
           record {
@@ -120,6 +119,10 @@ module _ {n m : ℕ} {picture steps words ws residues indices : List ℕ} {i : �
                 (λ early. settled-still j early)
                 (last-or-below j i (omega arith)));
           }
+
+-- the words of one part
+one-part : (n : ℕ) → 4 * n - 3 * n ≡ n
+one-part n = omega arith
 
 -- the same, as the code reads the words
 module _ {n : ℕ} {picture steps ws residues indices : List ℕ} {i : ℕ} (turn : Visitable n picture steps ws residues indices i) where
@@ -144,19 +147,20 @@ module _ {n : ℕ} {picture steps ws residues indices : List ℕ} {i : ℕ} (tur
   pub visit-parent : getD ws (getD ws (2 * n + i) 0) 0 < n
   visit-parent = rw (pixel-read, parent-read) (climbable .within (order-of n (take (3 * n) ws) i) read-inside)
 
-  pub visit-ready : Settleable picture steps (take (length ws - 3 * n) (drop (3 * n) ws)) residues indices (getD ws (2 * n + i) 0)
+  pub visit-ready : Settleable picture steps (take (4 * n - 3 * n) (drop (3 * n) ws)) residues indices (getD ws (2 * n + i) 0)
       (getD ws (getD ws (2 * n + i) 0) 0)
-  visit-ready = rw (to-end ws (3 * n), pixel-read, parent-read) (turn-ready (turn .inside) (turn .given) (turn .progress))
+  visit-ready = rw (one-part n, pixel-read, parent-read) (turn-ready (turn .inside) (turn .given) (turn .progress))
 
   pub visit-settles : getD picture (getD ws (2 * n + i) 0) 0 < 256 → {runs' residues' indices' : List ℕ}
-      → length runs' ≡ length (take (length ws - 3 * n) (drop (3 * n) ws))
-      → Stored picture (take (length ws - 3 * n) (drop (3 * n) ws)) residues indices runs' residues' indices' (length steps)
+      → length runs' ≡ length (take (4 * n - 3 * n) (drop (3 * n) ws))
+      → Stored picture (take (4 * n - 3 * n) (drop (3 * n) ws)) residues indices runs' residues' indices' (length steps)
       (place-of steps (getD ws (2 * n + i) 0) (getD ws (getD ws (2 * n + i) 0) 0) (getD ws (n + getD ws (2 * n + i) 0) 0))
       (getD ws (2 * n + i) 0)
       (getD ws (getD ws (2 * n + i) 0) 0)
-      → Progress n picture steps (take (3 * n) ws) (putMid (3 * n) (length ws - 3 * n) ws runs') residues' indices' (i + 1)
+      → Progress n picture steps (take (3 * n) ws) (putMid (3 * n) (4 * n - 3 * n) ws runs') residues' indices' (i + 1)
   visit-settles byte {runs'} {residues'} {indices'} size stored =
       let fits : 3 * n ≤ length ws = omega (arith, turn .progress .ws-size) in
+      let ws' : List ℕ = putMid (3 * n) (4 * n - 3 * n) ws runs' in
       turn-settles
       (turn .inside)
       (turn .given)
@@ -165,11 +169,11 @@ module _ {n : ℕ} {picture steps ws residues indices : List ℕ} {i : ℕ} (tur
       runs'
       residues'
       indices'
-      (rw (to-end ws (3 * n), pixel-read, parent-read, attribute-read) at stored)
-      (putMid (3 * n) (length ws - 3 * n) ws runs')
-      (take-put (3 * n) (length ws - 3 * n) ws runs' fits)
-      (runs-back n ws runs' fits)
-      (same-len-mid (3 * n) (length ws - 3 * n) ws runs' size)
+      (rw (one-part n, pixel-read, parent-read, attribute-read) at stored)
+      ws'
+      (take-put (3 * n) (4 * n - 3 * n) ws runs' fits)
+      (rw (one-part n) (runs-back n ws runs' fits (size ∙ mid-len (3 * n) (4 * n) ws (omega (arith, turn .progress .ws-size)) ∙ one-part n)))
+      (same-len-mid (3 * n) (4 * n - 3 * n) ws runs' size)
 
 -- from one turn to the next the words stay
 module _ {n : ℕ} {picture steps words ws residues indices : List ℕ} {i : ℕ}

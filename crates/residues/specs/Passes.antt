@@ -66,13 +66,17 @@ pub record Settled (n : ℕ) (picture steps words runs residues indices : List �
       (getD indices (getD words q 0) 0)
   pub low : getD runs q 0 % 256 ≤ getD picture q 0
 
+-- the nodes' words: the fourth part
+abbrev pub runs-of : ℕ → List ℕ → List ℕ
+runs-of n ws = take n (drop (3 * n) ws)
+
 -- the first i nodes of the list are settled, and the words are as they were
 pub record Progress (n : ℕ) (picture steps words ws residues indices : List ℕ) (i : ℕ) : Type 0 where
   pub ws-size : length ws ≡ 6 * n
   pub residues-size : length residues ≡ n
   pub indices-size : length indices ≡ n
   pub kept : take (3 * n) ws ≡ words
-  pub done : (j : ℕ) → j < i → Settled n picture steps words (drop (3 * n) ws) residues indices (order-of n words j)
+  pub done : (j : ℕ) → j < i → Settled n picture steps words (runs-of n ws) residues indices (order-of n words j)
 
 -- what the turn at place i of the list needs
 pub record Visitable (n : ℕ) (picture steps ws residues indices : List ℕ) (i : ℕ) : Type 0 where

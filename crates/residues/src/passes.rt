@@ -101,7 +101,7 @@ fn settle(
     indices[r] = indices[parent];
 }
 
-// Settles the node at place i of the list.
+// Settles the node at place i of the list. Part 4 is lent on by itself.
 fn visit(
     picture: &[u8],
     steps: &[u32],
@@ -119,7 +119,6 @@ fn visit(
     let r = ws[2 * n + i] as usize;
     let a = ws[n + r];
     let parent = ws[r] as usize;
-    let start = 3 * n;
     settle(
         picture,
         steps,
@@ -127,7 +126,7 @@ fn visit(
         r,
         parent,
         a,
-        &mut ws[start..],
+        &mut ws[3 * n..4 * n],
         residues,
         indices,
     );

@@ -38,11 +38,14 @@ slice-read-parent c = omega (arith, visit-inside (c .before .before .before .bef
 cast-parent : tie.Need-cast-parent
 cast-parent c = omega (arith, visit-parent (c .before .before .before .before .before .before .before .before .pre .0))
 
-mul-start : tie.Need-mul-start
-mul-start c = search needs
-
 mul-settle : tie.Need-mul-settle
 mul-settle c = search needs
+
+mul-settle-2 : tie.Need-mul-settle-2
+mul-settle-2 c = search needs
+
+mul-settle-3 : tie.Need-mul-settle-3
+mul-settle-3 c = search needs
 
 sub-settle : tie.Need-sub-settle
 sub-settle c = search needs
@@ -90,8 +93,9 @@ visit-spec =
     mul-parent
     slice-read-parent
     cast-parent
-    mul-start
     mul-settle
+    mul-settle-2
+    mul-settle-3
     sub-settle
     part-settle-start
     part-settle-end
