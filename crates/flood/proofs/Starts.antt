@@ -10,19 +10,19 @@ use lib.Seq.{getD-set-same, getD-set-other}
 use Rattle.sets.proofs.Laws.{count-le}
 use Rattle.grid.specs.Neighbours.{edge-neighbours}
 use Rattle.flood.specs.Flooding.{state-of, darker}
-use Rattle.flood.specs.Levels.{grey, total, Counted, Summed}
+use Rattle.flood.specs.Levels.{grey, total, level-counts, starts-of}
 use Rattle.flood.specs.Marks.{Marked}
 use Rattle.flood.specs.Calls.{Sized, Fitting, Placing, Ready, Floodable}
 use Rattle.flood.proofs.Counts.{by-cases, equal-or-not}
 use Rattle.flood.proofs.Meeting.{tail-lt}
 use Rattle.flood.proofs.Beginning.{Untouched, begins, first-sound, first-at}
-use Rattle.flood.proofs.Tables.{total-darker}
+use Rattle.flood.proofs.Tables.{table-long, table-read, total-darker}
 
 -- all counts add up to the pixels
 pub counts-fit :
-    {picture counts : List ℕ} → Counted (length picture) picture counts → length picture ≤ 1048576
+    (picture : List ℕ) {counts : List ℕ} → counts ≡ level-counts (length picture) picture → length picture ≤ 1048576
     → total 256 (λ (k : ℕ). getD counts k 0) < 18446744073709551616
-counts-fit {picture} {counts} C small =
+counts-fit picture {counts} C small =
     omega (
       arith,
       total-darker picture counts (length picture) C 256 (omega arith),
@@ -30,22 +30,22 @@ counts-fit {picture} {counts} C small =
     )
 
 -- the first part filled
-module _ {n : ℕ} {ws : List ℕ} (part : List ℕ) (size : Sized n ws) (kept : length part ≡ length (take (n - 0) (drop 0 ws))) where
+module _ {n : ℕ} {ws : List ℕ} (part : List ℕ) (size : Sized n ws) (all : part ≡ replicate (length (take (n - 0) (drop 0 ws))) n) where
   part-length : length (take (n - 0) (drop 0 ws)) ≡ n
   part-length = simp (length-take, length-drop) (omega (arith, size .words))
 
   pub filled-sized : Sized n (part ++ drop (n - 0) (drop 0 ws))
   filled-sized =
       record {
-        words = simp (length-append, length-drop) (omega (arith, size .words, part-length));
+        words = simp (all, length-append, length-replicate, length-drop) (omega (arith, size .words, part-length));
         small = size .small;
       }
 
-  pub filled-unmet :
-      ((i : ℕ) → i < length (take (n - 0) (drop 0 ws)) → getD part i 0 ≡ n) → (q : ℕ) → q < n
-      → getD (part ++ drop (n - 0) (drop 0 ws)) q 0 ≡ n
-  filled-unmet all q h =
-      List·getD-append part _ 0 q (omega (arith, part-length)) ∙ all q (omega (arith, part-length))
+  pub filled-unmet : (q : ℕ) → q < n → getD (part ++ drop (n - 0) (drop 0 ws)) q 0 ≡ n
+  filled-unmet q h =
+      rw
+      (all, part-length)
+      (List·getD-append (replicate n n) _ 0 q (rw (length-replicate n n) h) ∙ getD-replicate n q n 0 h)
 
 -- the table with no level open: n for each root, and an empty set
 abbrev pub none-open : ℕ → List ℕ
@@ -90,11 +90,11 @@ none-marked n =
     }
 
 module _ {w : ℕ} {picture ws ws₁ counts starts : List ℕ} (F : Floodable w picture ws) (bytes : (x : ℕ) → grey picture x < 256)
-    (C : Counted (length picture) picture counts) (T : Summed counts starts) (size : Sized (length picture) ws₁)
+    (C : counts ≡ level-counts (length picture) picture) (T : starts ≡ starts-of counts) (size : Sized (length picture) ws₁)
     (unmet-all : (q : ℕ) → q < length picture → getD ws₁ q 0 ≡ length picture)
   where
     at-start : (k : ℕ) → k < 256 → getD starts k 0 ≡ darker (length picture) (grey picture) k
-    at-start k h = T .each k h ∙ total-darker picture counts (length picture) C k (omega arith)
+    at-start k h = table-read _ T k h ∙ total-darker picture counts (length picture) C k (omega arith)
 
     untouched :
         Untouched
@@ -118,7 +118,7 @@ module _ {w : ℕ} {picture ws ws₁ counts starts : List ℕ} (F : Floodable w 
           free =
               tail-lt (begins untouched {adj = edge-neighbours w}) (bytes 0) (F .some) (unmet-all 0 (F .some));
           root = omega (arith, untouched .closed-all (grey picture 0) (bytes 0));
-          wide-tails = T .wide;
+          wide-tails = table-long _ T;
           wide-roots = emptied (length picture) .wide;
           marks = none-marked (length picture);
         }
@@ -133,7 +133,7 @@ module _ {w : ℕ} {picture ws ws₁ counts starts : List ℕ} (F : Floodable w 
           columns = F .columns;
           whole = F .whole;
           sized = record { words = same-length ∙ size .words; small = size .small };
-          wide-heads = T .wide;
+          wide-heads = table-long _ T;
           wide-tails = P .wide-tails;
           wide-roots = P .wide-roots;
           marks = P .marks;

@@ -1,6 +1,6 @@
 -- The passes one after the other: what each leaves is what the next asks, and at the end the words are those of the record.
 -- Assumes nothing.
-use Prim.Native.Nat.{ℕ, _+_, _*_, _-_, _≤_, _<_}
+use Prim.Native.Nat.{ℕ, _+_, _*_, _≤_, _<_}
 use mathlib.Core.Bool.{Bool, true, cond}
 use mathlib.Core.List.{List, _++_}
 use mathlib.Core.Logic.{⊎-elim}
@@ -8,12 +8,12 @@ use mathlib.Core.Path.{_≡_, refl, sym, ap, subst, _∙_}
 use native.Mathlib.Nat.{le-refl, mod-lt, mul-pos, mul-comm, mul-mod-right, div-lt-iff-lt-mul}
 use native.Mathlib.Omega.{arith}
 use lib.Dec.{eqb, ltb}
-use lib.ListN.{getD, length, take, length-append, List·getD-append}
-use lib.Seq.{length-take-le, getD-take, ext-getD}
+use lib.ListN.{getD, length, take, drop, length-drop}
+use lib.Seq.{length-take-le, take-add, getD-take, getD-drop}
 use borrow.Author.Tests.{eqb-true}
 use Rattle.sets.specs.Sets.{member, table}
-use Rattle.sets.proofs.Tests.{decided, le-or-lt}
-use Rattle.sets.proofs.Laws.{length-table, table-at, count-le, count-ext}
+use Rattle.sets.proofs.Tests.{decided}
+use Rattle.sets.proofs.Laws.{count-le, count-ext}
 use Rattle.sets.proofs.Gather.{gather-ext}
 use Rattle.connected.specs.Component.{Adjacency, Symmetric}
 use Rattle.opening.specs.Node.{node}
@@ -27,12 +27,12 @@ use Rattle.tree.specs.Tree.{parents, attributes, parent-word, attribute-word, i
 use Rattle.tree.proofs.Record.{representative-lowest, parent-word-lowest, number-lowest}
 use Rattle.tree.proofs.Relabel.{relabel-root, relabel-forest, relabel-owned}
 use Rattle.calls.proofs.Accepted.{Bounded, bounded}
-use Rattle.flood.specs.Levels.{grey, total, Summed}
+use Rattle.flood.specs.Levels.{grey, total, starts-of}
 use Rattle.flood.specs.Calls.{Sized, Floodable, FloodedBy}
 use Rattle.max_tree.specs.Accumulators.{nothing, single, combined, measured}
 use Rattle.max_tree.specs.Branches.{owned, branch}
 use Rattle.flood.specs.Flooding.{parent-of, order-of, darker}
-use Rattle.flood.proofs.Tables.{total-below}
+use Rattle.flood.proofs.Tables.{table-long, table-read, as-table, total-below}
 use Rattle.max_tree.specs.Listing.{Listed}
 use Rattle.max_tree.specs.Passes.{word-of, first-of, held-of, root-of, lowest-of, lowest-own-pixel, node-level, Blanked, Blank, Owned, roots, Own-held, Pourable, Poured, Recordable, Recorded}
 use Rattle.max_tree.specs.Building.{Buildable, Ordered}
@@ -40,28 +40,18 @@ use Rattle.max_tree.proofs.Accumulators.{single-small, gathered-ends, m
 use Rattle.max_tree.proofs.Branches.{node-branch}
 use Rattle.max_tree.proofs.Stores.{root-same, root-within}
 use Rattle.max_tree.proofs.FloodForest.{flooded-forest}
-use Rattle.max_tree.proofs.Parts.{past}
 use Rattle.max_tree.proofs.Agreeing.{forest-same, listed-same, lowest-same, node-level-same}
 
 -- a list that holds two tables, one after the other
 two-tables : (n : ℕ) (f g : ℕ → ℕ) (xs : List ℕ) → 2 * n ≤ length xs → ((q : ℕ) → q < n → getD xs q 0 ≡ f q) → ((q : ℕ) → q < n → getD xs (n + q) 0 ≡ g q) → take (2 * n) xs ≡ table n f ++ table n g
 two-tables n f g xs size first second =
-    let long : length (take (2 * n) xs) ≡ 2 * n = length-take-le (2 * n) xs size in
-    ext-getD
-    0
-    (take (2 * n) xs)
-    (table n f ++ table n g)
-    (omega (arith, length-append (table n f) (table n g), length-table n f, length-table n g))
-    (λ k b.
-    getD-take (2 * n) xs k 0 (omega arith)
-    ∙ ⊎-elim
-    (λ l.
-    let z : k ≡ n + (k - n) = omega arith in
-    ap (λ (i : ℕ). getD xs i 0) z
-    ∙ second (k - n) (omega arith)
-    ∙ sym (past (table n f) (table n g) n k (length-table n f) l ∙ table-at n g (k - n) 0 (omega arith)))
-    (λ l. first k l ∙ sym (List·getD-append (table n f) (table n g) 0 k (omega (arith, length-table n f)) ∙ table-at n f k 0 l))
-    (le-or-lt n k))
+    let both : 2 * n ≡ n + n = omega arith in
+    let half : n ≤ length (drop n xs) = rw (length-drop n xs) (omega arith) in
+    let one : take n xs ≡ table n f =
+    as-table f (length-take-le n xs (omega arith)) (λ q b. getD-take n xs q 0 b ∙ first q b) in
+    let two : take n (drop n xs) ≡ table n g =
+    as-table g (length-take-le n (drop n xs) half) (λ q b. getD-take n (drop n xs) q 0 b ∙ getD-drop n xs q 0 ∙ second q b) in
+    rw (both, take-add n n xs, one, two) refl
 
 module _ (w h : ℕ) (picture ws : List ℕ) (B : Buildable w h picture ws) where
   fits : Bounded w h
@@ -153,7 +143,7 @@ module _ (w h : ℕ) (picture ws : List ℕ) (B : Buildable w h picture ws) wher
           omega (arith, starts-at 256 (omega arith), count-le n (λ (q : ℕ). ltb (node-level picture ws₄ q) 256), sized .small)
 
       -- after the runs are laid out
-      module _ (starts : List ℕ) (T : Summed counts starts) where
+      module _ (starts : List ℕ) (T : starts ≡ starts-of counts) where
         pub record-asked : Recordable picture ws₄ starts
         record-asked =
             record {
@@ -168,8 +158,8 @@ module _ (w h : ℕ) (picture ws : List ℕ) (B : Buildable w h picture ws) wher
                   ∙ ap (lowest-of picture ws₃) (sym (same-root q b))
                   ∙ lowest-same picture ws₃ ws₄ same-own (root-of picture ws₄ q);
               zero = λ q b. O .kept (n + q) (omega arith) ∙ blank₃ .zero q b;
-              wide = T .wide;
-              run-starts = λ l b. T .each l b ∙ starts-at l (omega arith);
+              wide = table-long _ T;
+              run-starts = λ l b. table-read _ T l b ∙ starts-at l (omega arith);
             }
 
         -- after the record is written

@@ -1,106 +1,92 @@
--- A part of a list that is lent and comes back filled with one word, the four parts of the scratch, and the parts that are blank before
+-- A part of a list that is lent and comes back filled with one word: the four parts of the scratch, and the parts that are blank before
 -- the passes. Assumes nothing.
 use Prim.Native.Nat.{ℕ, _+_, _*_, _-_, _≤_, _<_}
-use mathlib.Core.List.{List, _++_}
-use mathlib.Core.Logic.{⊎-elim}
-use mathlib.Core.Path.{_≡_, sym, ap, subst, _∙_}
+use mathlib.Core.List.{List, _++_, append-assoc, append-nil}
+use mathlib.Core.Path.{_≡_, refl, sym, ap, _∙_}
 use native.Mathlib.Omega.{arith}
-use lib.ListN.{getD, length, take, drop, replicate, length-append, length-replicate, getD-replicate, List·getD-append}
-use lib.Seq.{length-take-le, getD-take, getD-drop, getD-append-add, ext-getD}
-use borrow.Rule.Slice.PartMut.{midOf, putMid, mid-len, same-len-mid, take-put, drop-put}
-use Rattle.sets.proofs.Tests.{le-or-lt}
+use lib.ListN.{getD, length, take, drop, replicate, length-append, length-replicate, length-drop, getD-replicate, replicate-append-replicate, List·getD-append, drop-of-length-le}
+use lib.Seq.{length-take-le, getD-take, getD-append-add, take-at, drop-drop, drop-append-add}
+use borrow.Rule.Slice.PartMut.{midOf, putMid, mid-len, post-is}
 use Rattle.max_tree.specs.Accumulators.{nothing}
 use Rattle.max_tree.specs.Passes.{Blanked}
 
--- the entries from a up to e are v, the others as they were
-pub record Filled (a e v : ℕ) (xs ys : List ℕ) : Type 0 where
-  pub words : length ys ≡ length xs
-  pub before : (k : ℕ) → k < a → getD ys k 0 ≡ getD xs k 0
-  pub inside : (k : ℕ) → a ≤ k → k < e → getD ys k 0 ≡ v
-  pub after : (k : ℕ) → e ≤ k → getD ys k 0 ≡ getD xs k 0
+-- the list with v in the entries from a up to e
+abbrev pub filled : ℕ → ℕ → ℕ → List ℕ → List ℕ
+filled a e v xs = take a xs ++ (replicate (e - a) v ++ drop e xs)
 
--- an entry past the first list
-pub past : (xs ys : List ℕ) (n k : ℕ) → length xs ≡ n → n ≤ k → getD (xs ++ ys) k 0 ≡ getD ys (k - n) 0
-past xs ys n k e l =
-    let z : k ≡ length xs + (k - n) = omega arith in
-    ap (λ (i : ℕ). getD (xs ++ ys) i 0) z ∙ getD-append-add xs ys (k - n) 0
+module _ (a e v : ℕ) (xs : List ℕ) (low : a ≤ e) (high : e ≤ length xs) where
+  -- a part that is lent comes back filled
+  pub part-filled : {ys part : List ℕ} → ys ≡ xs → part ≡ replicate (length (midOf a (e - a) ys)) v → putMid a (e - a) ys part ≡ filled a e v xs
+  part-filled same all = rw (all, same, mid-len a e xs high, post-is a e xs low) refl
 
-module _ (a e v : ℕ) (xs part : List ℕ) (low : a ≤ e) (high : e ≤ length xs) (size : length part ≡ length (midOf a (e - a) xs)) (all : (i : ℕ) → i < length (midOf a (e - a) xs) → getD part i 0 ≡ v) where
-  long : length part ≡ e - a
-  long = size ∙ mid-len a e xs high
+  front : length (take a xs) ≡ a
+  front = length-take-le a xs (omega arith)
 
-  filled-after : (k : ℕ) → e ≤ k → getD (putMid a (e - a) xs part) k 0 ≡ getD xs k 0
-  filled-after k l =
-      let z : e + (k - e) ≡ k = omega arith in
-      subst
-      (λ (i : ℕ). getD (putMid a (e - a) xs part) i 0 ≡ getD xs i 0)
-      z
-      (sym (getD-drop e (putMid a (e - a) xs part) (k - e) 0)
-      ∙ ap (λ (l : List ℕ). getD l (k - e) 0) (drop-put a e xs part low high long)
-      ∙ getD-drop e xs (k - e) 0)
+  pub filled-long : length (filled a e v xs) ≡ length xs
+  filled-long =
+      simp (length-append, length-replicate, length-drop) (omega (arith, front))
 
-  pub part-filled : Filled a e v xs (putMid a (e - a) xs part)
-  part-filled =
-      record {
-        words = same-len-mid a (e - a) xs part size;
-        before =
-            λ k l.
-            sym (getD-take a (putMid a (e - a) xs part) k 0 l)
-            ∙ ap (λ (l : List ℕ). getD l k 0) (take-put a (e - a) xs part (omega arith))
-            ∙ getD-take a xs k 0 l;
-        inside =
-            λ k l m.
-            past (take a xs) (part ++ drop (e - a) (drop a xs)) a k (length-take-le a xs (omega arith)) l
-            ∙ List·getD-append part (drop (e - a) (drop a xs)) 0 (k - a) (omega (arith, long))
-            ∙ all (k - a) (omega (arith, mid-len a e xs high));
-        after = filled-after;
-      }
+  pub filled-before : (k : ℕ) → k < a → getD (filled a e v xs) k 0 ≡ getD xs k 0
+  filled-before k l = List·getD-append (take a xs) _ 0 k (rw front l) ∙ getD-take a xs k 0 l
 
--- the four parts of the scratch are zero
-module _ (n : ℕ) (ws x₁ x₂ x₃ x₄ : List ℕ) (size : length ws ≡ 6 * n) (f₁ : Filled (2 * n) (3 * n) 0 ws x₁) (f₂ : Filled (3 * n) (4 * n) 0 x₁ x₂) (f₃ : Filled (4 * n) (5 * n) 0 x₂ x₃) (f₄ : Filled (5 * n) (6 * n) 0 x₃ x₄) where
-  kept : (k : ℕ) → k < 2 * n → getD x₄ k 0 ≡ getD ws k 0
-  kept k l =
-      f₄ .before k (omega arith) ∙ f₃ .before k (omega arith) ∙ f₂ .before k (omega arith) ∙ f₁ .before k (omega arith)
+  pub filled-inside : (k : ℕ) → a + k < e → getD (filled a e v xs) (a + k) 0 ≡ v
+  filled-inside k l =
+      let here : k < e - a = omega arith in
+      ap (λ (i : ℕ). getD (filled a e v xs) (i + k) 0) (sym front)
+      ∙ getD-append-add (take a xs) (replicate (e - a) v ++ drop e xs) k 0
+      ∙ List·getD-append (replicate (e - a) v) (drop e xs) 0 k (rw (length-replicate (e - a) v) here)
+      ∙ getD-replicate (e - a) k v 0 here
 
-  zero-from : (k : ℕ) → 2 * n ≤ k → k < 6 * n → getD x₄ k 0 ≡ 0
-  zero-from k l m =
-      ⊎-elim
-      (λ o. f₄ .inside k o m)
-      (λ o.
-      f₄ .before k o
-      ∙ ⊎-elim
-      (λ p. f₃ .inside k p o)
-      (λ p.
-      f₃ .before k p
-      ∙ ⊎-elim (λ q. f₂ .inside k q p) (λ q. f₂ .before k q ∙ f₁ .inside k l q) (le-or-lt (3 * n) k))
-      (le-or-lt (4 * n) k))
-      (le-or-lt (5 * n) k)
+-- a part filled with the word of the part before it
+pub filled-on : (a b e v : ℕ) (xs : List ℕ) → a ≤ b → b ≤ e → e ≤ length xs → filled b e v (filled a b v xs) ≡ filled a e v xs
+filled-on a b e v xs low on high =
+    let head : List ℕ = take a xs ++ replicate (b - a) v in
+    let long : length head ≡ b = simp (length-append, length-replicate) (omega (arith, length-take-le a xs (omega arith))) in
+    let split : filled a b v xs ≡ head ++ drop b xs = sym (append-assoc (take a xs) (replicate (b - a) v) (drop b xs)) in
+    let here : e ≡ length head + (e - b) = omega arith in
+    let there : b + (e - b) ≡ e = omega arith in
+    let times : b - a + (e - b) ≡ e - a = omega arith in
+    let rest : drop e (head ++ drop b xs) ≡ drop e xs =
+    ap (λ (i : ℕ). drop i (head ++ drop b xs)) here
+    ∙ drop-append-add head (drop b xs) (e - b)
+    ∙ drop-drop (e - b) b xs
+    ∙ ap (λ (i : ℕ). drop i xs) there in
+    rw
+    (split, take-at head (drop b xs) b long, rest)
+    (append-assoc (take a xs) (replicate (b - a) v) (replicate (e - b) v ++ drop e xs)
+    ∙ ap (λ (l : List ℕ). take a xs ++ l) (sym (append-assoc (replicate (b - a) v) (replicate (e - b) v) (drop e xs)))
+    ∙ ap (λ (l : List ℕ). take a xs ++ (l ++ drop e xs)) (replicate-append-replicate (b - a) (e - b) v)
+    ∙ ap (λ (k : ℕ). take a xs ++ (replicate k v ++ drop e xs)) times)
 
-  pub cleared : x₄ ≡ take (2 * n) ws ++ replicate (4 * n) 0
-  cleared =
-      let head : length (take (2 * n) ws) ≡ 2 * n = length-take-le (2 * n) ws (omega arith) in
-      ext-getD
-      0
-      x₄
-      (take (2 * n) ws ++ replicate (4 * n) 0)
-      (omega
-      (arith, f₁ .words, f₂ .words, f₃ .words, f₄ .words, length-append (take (2 * n) ws) (replicate (4 * n) 0), length-replicate {A = ℕ} (4 * n) 0))
-      (λ k b.
-      let c : k < 6 * n = omega (arith, f₁ .words, f₂ .words, f₃ .words, f₄ .words) in
-      ⊎-elim
-      (λ l.
-      zero-from k l c
-      ∙ sym (past (take (2 * n) ws) (replicate (4 * n) 0) (2 * n) k head l ∙ getD-replicate (4 * n) (k - 2 * n) 0 0 (omega arith)))
-      (λ l. kept k l ∙ sym (List·getD-append (take (2 * n) ws) (replicate (4 * n) 0) 0 k (omega arith) ∙ getD-take (2 * n) ws k 0 l))
-      (le-or-lt (2 * n) k))
+pub filled-next : (a b e v : ℕ) (xs : List ℕ) → a ≤ b → b ≤ e → e ≤ length xs → {ys part : List ℕ} → ys ≡ filled a b v xs → part ≡ replicate (length (midOf b (e - b) ys)) v → putMid b (e - b) ys part ≡ filled a e v xs
+filled-next a b e v xs low on high before all =
+    part-filled b e v (filled a b v xs) on (rw (filled-long a b v xs low (omega arith)) high) before all ∙ filled-on a b e v xs low on high
+
+-- a list that is filled up to its end
+pub filled-to-end : (a e k v : ℕ) (xs : List ℕ) → length xs ≡ e → e - a ≡ k → filled a e v xs ≡ take a xs ++ replicate k v
+filled-to-end a e k v xs size times = rw (drop-of-length-le xs {i = e} (omega arith), times, append-nil) refl
 
 -- parts 2, 4 and 5 blank
-pub blanked : (n a : ℕ) (ws x₁ x₂ x₃ : List ℕ) → Filled n (2 * n) 0 ws x₁ → Filled (3 * n) (4 * n) n x₁ x₂ → Filled (4 * n) (5 * n) (nothing a) x₂ x₃ → Blanked n a ws x₃
-blanked n a ws x₁ x₂ x₃ f₁ f₂ f₃ =
+pub blanked : (n a : ℕ) (ws : List ℕ) → length ws ≡ 6 * n → Blanked n a ws (filled (4 * n) (5 * n) (nothing a) (filled (3 * n) (4 * n) n (filled n (2 * n) 0 ws)))
+blanked n a ws size =
+    let x₁ : List ℕ = filled n (2 * n) 0 ws in
+    let x₂ : List ℕ = filled (3 * n) (4 * n) n x₁ in
+    let v : ℕ = nothing a in
+    let long₁ = filled-long n (2 * n) 0 ws (omega arith) (omega arith) in
+    let long₂ = filled-long (3 * n) (4 * n) n x₁ (omega arith) (omega arith) in
+    let high₂ : 4 * n ≤ length x₁ = omega arith in
+    let high₃ : 5 * n ≤ length x₂ = omega arith in
+    let before₁ = filled-before n (2 * n) 0 ws (omega arith) (omega arith) in
+    let before₂ = filled-before (3 * n) (4 * n) n x₁ (omega arith) high₂ in
+    let before₃ = filled-before (4 * n) (5 * n) v x₂ (omega arith) high₃ in
     record {
-      words = f₃ .words ∙ f₂ .words ∙ f₁ .words;
-      parents = λ q b. f₃ .before q (omega arith) ∙ f₂ .before q (omega arith) ∙ f₁ .before q b;
-      zero = λ q b. f₃ .before (n + q) (omega arith) ∙ f₂ .before (n + q) (omega arith) ∙ f₁ .inside (n + q) (omega arith) (omega arith);
-      unnoted = λ r b. f₃ .before (3 * n + r) (omega arith) ∙ f₂ .inside (3 * n + r) (omega arith) (omega arith);
-      blank = λ r b. f₃ .inside (4 * n + r) (omega arith) (omega arith);
+      words = filled-long (4 * n) (5 * n) v x₂ (omega arith) high₃ ∙ long₂ ∙ long₁;
+      parents = λ q b. before₃ q (omega arith) ∙ before₂ q (omega arith) ∙ before₁ q b;
+      zero =
+          λ q b.
+          before₃ (n + q) (omega arith)
+          ∙ before₂ (n + q) (omega arith)
+          ∙ filled-inside n (2 * n) 0 ws (omega arith) (omega arith) q (omega arith);
+      unnoted = λ r b. before₃ (3 * n + r) (omega arith) ∙ filled-inside (3 * n) (4 * n) n x₁ (omega arith) high₂ r (omega arith);
+      blank = λ r b. filled-inside (4 * n) (5 * n) v x₂ (omega arith) high₃ r (omega arith);
     }

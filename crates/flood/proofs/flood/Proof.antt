@@ -10,7 +10,7 @@ count-levels-requires : tie.Need-count-levels-requires
 count-levels-requires c κs = search needs
 
 run-starts-requires : tie.Need-run-starts-requires
-run-starts-requires c κs = counts-fit (c .count-levels .ensures) (c .before .before .before .pre .sized .small)
+run-starts-requires c κs = counts-fit (c .before .before .before .args .picture .now) (c .count-levels .ensures) (c .before .before .before .pre .sized .small)
 
 array-write-roots : tie.Need-array-write-roots
 array-write-roots c = search needs
@@ -52,14 +52,14 @@ push-requires c κs =
     let start = filled .before .before .before .before .before .before in
     let part = filled .fill .last .0 in
     let sized = start .pre .sized in
-    let kept = filled .fill .kept .0 in
+    let all = filled .fill .ensures in
     first-fits
     (start .pre)
     (λ x. c .before .before .before .shared-slice-known2 .given x .fits)
     (starts .before .count-levels .ensures)
     (starts .run-starts .ensures)
-    (filled-sized part sized kept)
-    (filled-unmet part sized kept (filled .fill .ensures))
+    (filled-sized part sized all)
+    (filled-unmet part sized all)
 
 run-requires : tie.Need-run-requires
 run-requires c κs =
@@ -68,15 +68,15 @@ run-requires c κs =
     let start = filled .before .before .before .before .before .before in
     let part = filled .fill .last .0 in
     let sized = start .pre .sized in
-    let kept = filled .fill .kept .0 in
+    let all = filled .fill .ensures in
     let first = c .before .before .before .before .before .before .push in
     first-ready
     (start .pre)
     (λ x. c .before .before .before .before .before .before .before .before .before .before .shared-slice-known2 .given x .fits)
     (starts .before .count-levels .ensures)
     (starts .run-starts .ensures)
-    (filled-sized part sized kept)
-    (filled-unmet part sized kept (filled .fill .ensures))
+    (filled-sized part sized all)
+    (filled-unmet part sized all)
     (first .ensures)
     (first .kept .1 .1 .1 .0)
 

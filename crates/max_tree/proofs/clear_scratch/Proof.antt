@@ -1,7 +1,7 @@
 -- `max_tree::clear_scratch` meets its contract: each of the four parts comes back filled. Assumes nothing.
-use Prim.Native.Nat.{_*_, _-_}
-use borrow.Rule.Slice.PartMut.{putMid}
-use Rattle.max_tree.proofs.Parts.{part-filled, cleared}
+use Prim.Native.Nat.{_*_}
+use mathlib.Core.Path.{refl, _∙_}
+use Rattle.max_tree.proofs.Parts.{part-filled, filled-next, filled-to-end}
 use borrow.Author.Needs.{needs}
 use native.Mathlib.Omega.{arith}
 use Rattle.max_tree.proofs.clear_scratch.Statement.{statement}
@@ -103,16 +103,12 @@ returns c =
     let two = c .before .before .before .before .before .before .before .before .before .before .fill2 in
     let three = c .before .before .before .before .before .before .fill3 in
     let four = c .before .before .fill4 in
-    let x₁ = putMid (2 * n) (3 * n - 2 * n) ws (one .last .0) in
-    let x₂ = putMid (3 * n) (4 * n - 3 * n) x₁ (two .last .0) in
-    let x₃ = putMid (4 * n) (5 * n - 4 * n) x₂ (three .last .0) in
-    let x₄ = putMid (5 * n) (6 * n - 5 * n) x₃ (four .last .0) in
     let size = start .pre .words in
-    let f₁ = part-filled (2 * n) (3 * n) 0 ws (one .last .0) (omega arith) (omega arith) (one .kept .0) (one .ensures) in
-    let f₂ = part-filled (3 * n) (4 * n) 0 x₁ (two .last .0) (omega arith) (omega (arith, f₁ .words)) (two .kept .0) (two .ensures) in
-    let f₃ = part-filled (4 * n) (5 * n) 0 x₂ (three .last .0) (omega arith) (omega (arith, f₁ .words, f₂ .words)) (three .kept .0) (three .ensures) in
-    let f₄ = part-filled (5 * n) (6 * n) 0 x₃ (four .last .0) (omega arith) (omega (arith, f₁ .words, f₂ .words, f₃ .words)) (four .kept .0) (four .ensures) in
-    cleared n ws x₁ x₂ x₃ x₄ size f₁ f₂ f₃ f₄
+    let f₁ = part-filled (2 * n) (3 * n) 0 ws (omega arith) (omega arith) refl (one .ensures) in
+    let f₂ = filled-next (2 * n) (3 * n) (4 * n) 0 ws (omega arith) (omega arith) (omega arith) f₁ (two .ensures) in
+    let f₃ = filled-next (2 * n) (4 * n) (5 * n) 0 ws (omega arith) (omega arith) (omega arith) f₂ (three .ensures) in
+    filled-next (2 * n) (5 * n) (6 * n) 0 ws (omega arith) (omega arith) (omega arith) f₃ (four .ensures)
+    ∙ filled-to-end (2 * n) (6 * n) (4 * n) 0 ws size (omega arith)
 
 pub clear-scratch-spec : {M : Type 1} → statement M
 clear-scratch-spec =

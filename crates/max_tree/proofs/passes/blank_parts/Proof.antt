@@ -1,9 +1,8 @@
 -- `max_tree::passes::blank_parts` meets its contract. Assumes nothing.
-use Prim.Native.Nat.{ℕ, _*_, _-_}
-use mathlib.Core.Path.{subst}
+use Prim.Native.Nat.{_*_}
+use mathlib.Core.Path.{refl}
 use native.Mathlib.Omega.{arith}
-use borrow.Rule.Slice.PartMut.{putMid}
-use Rattle.max_tree.proofs.Parts.{Filled, part-filled, blanked}
+use Rattle.max_tree.proofs.Parts.{filled, filled-long, part-filled, blanked}
 use borrow.Author.Needs.{needs}
 use Rattle.max_tree.proofs.passes.blank_parts.Statement.{statement}
 use Rattle.max_tree.proofs.passes.blank_parts.Tie as tie
@@ -79,20 +78,21 @@ same-length c = search needs
 
 returns : tie.Need-returns
 returns c =
-    let n = c .before .before .before .before .before .before .before .before .before .before .before .before .before .before .args .n in
-    let ws = c .before .before .before .before .before .before .before .before .before .before .before .before .before .before .args .ws .now in
+    let start = c .before .before .before .before .before .before .before .before .before .before .before .before .before .before in
+    let n = start .args .n in
+    let ws = start .args .ws .now in
     let none = c .before .before .before .before .before .before .before .before .before .before .before .before .none in
     let one = c .before .before .before .before .before .before .before .before .before .before .fill in
     let two = c .before .before .before .before .before .before .fill2 in
     let three = c .before .before .fill3 in
-    let x₁ = putMid n (2 * n - n) ws (one .last .0) in
-    let x₂ = putMid (3 * n) (4 * n - 3 * n) x₁ (two .last .0) in
-    let x₃ = putMid (4 * n) (5 * n - 4 * n) x₂ (three .last .0) in
-    let size = c .before .before .before .before .before .before .before .before .before .before .before .before .before .before .pre .words in
-    let f₁ = part-filled n (2 * n) 0 ws (one .last .0) (omega arith) (omega arith) (one .kept .0) (one .ensures) in
-    let f₂ = part-filled (3 * n) (4 * n) n x₁ (two .last .0) (omega arith) (omega (arith, f₁ .words)) (two .kept .0) (two .ensures) in
-    let f₃ = part-filled (4 * n) (5 * n) (none .result) x₂ (three .last .0) (omega arith) (omega (arith, f₁ .words, f₂ .words)) (three .kept .0) (three .ensures) in
-    blanked n (c .before .before .before .before .before .before .before .before .before .before .before .before .before .before .args .attribute) ws x₁ x₂ x₃ f₁ f₂ (subst (λ (v : ℕ). Filled (4 * n) (5 * n) v x₂ x₃) (none .ensures) f₃)
+    let size = start .pre .words in
+    let x₁ = filled n (2 * n) 0 ws in
+    let long₁ = filled-long n (2 * n) 0 ws (omega arith) (omega arith) in
+    let long₂ = filled-long (3 * n) (4 * n) n x₁ (omega arith) (omega arith) in
+    let f₁ = part-filled n (2 * n) 0 ws (omega arith) (omega arith) refl (one .ensures) in
+    let f₂ = part-filled (3 * n) (4 * n) n x₁ (omega arith) (omega arith) f₁ (two .ensures) in
+    let f₃ = part-filled (4 * n) (5 * n) (none .result) (filled (3 * n) (4 * n) n x₁) (omega arith) (omega arith) f₂ (three .ensures) in
+    rw (f₃, none .ensures) (blanked n (start .args .attribute) ws size)
 
 pub blank-parts-spec : {M : Type 1} → statement M
 blank-parts-spec =
