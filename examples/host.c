@@ -3,13 +3,23 @@
  *
  *   host PICTURE RESIDUE INDEX area|height|width STEP..
  *
- * The index map is written for viewing: the last step is white, 0 black, those between spread evenly.
+ * The residue map has a byte a sample, the index map two, the high one first, and the maximum 256, so that every index is kept. The
+ * exit status is 0 if both maps are written, 1 if the library refuses or a file cannot be read or written, 2 if the words are wrong.
  */
 #include "teldruf.h"
 
+#include <errno.h>
+#include <stdarg.h>
 #include <stdio.h>
 #include <stdlib.h>
 #include <string.h>
+
+enum { REFUSED = 1, WRONG_USE = 2 };
+
+/* The largest file that is read: beside the largest raster there is room for a header with a mebibyte of comments. */
+enum { MOST_FILE = 2 * TELDRUF_MOST_PIXELS };
+
+enum { MOST_INDEX = TELDRUF_MOST_STEPS };
 
 typedef struct {
     uint32_t width, height;
@@ -17,38 +27,54 @@ typedef struct {
     const uint8_t *greys;
 } picture_t;
 
-static void fail(const char *what, const char *name) {
-    fprintf(stderr, "host: %s: %s\n", name, what);
-    exit(1);
+/* Ends the program with a sentence. */
+static _Noreturn void fail(int status, const char *form, ...) {
+    va_list words;
+    va_start(words, form);
+    fputs("host: ", stderr);
+    vfprintf(stderr, form, words);
+    fputc('\n', stderr);
+    va_end(words);
+    exit(status);
 }
 
-/* Ends the program if a call was refused. */
-static void accepted(uint64_t answer, const char *name) {
-    if (teldruf_cause(answer) != 0) {
-        fprintf(stderr, "host: %s: refused %u\n", name, teldruf_cause(answer));
-        exit(1);
-    }
+/* The value of an accepted call on what is named. */
+static uint32_t accepted(uint64_t answer, const char *name) {
+    uint32_t cause = teldruf_cause(answer);
+    if (cause != 0)
+        fail(REFUSED, "%s: refused %u: %s", name, (unsigned)cause, teldruf_cause_text(cause));
+    return (uint32_t)answer;
 }
 
 static void *lend(size_t entries, size_t size) {
     void *memory = calloc(entries, size);
     if (memory == NULL)
-        fail("not enough memory", "host");
+        fail(REFUSED, "not enough memory");
     return memory;
 }
 
-/* The whole file. Beside the largest raster there is room for a header with comments. */
 static uint8_t *read_file(const char *name, size_t *length) {
-    const size_t most = TELDRUF_MOST_PIXELS + 65536;
-    uint8_t *bytes = lend(most, 1);
+    uint8_t *bytes = lend(MOST_FILE + 1, 1);
     FILE *file = fopen(name, "rb");
     if (file == NULL)
-        fail("cannot be opened", name);
-    *length = fread(bytes, 1, most, file);
-    if (ferror(file) || fgetc(file) != EOF)
-        fail("cannot be read, or is too long", name);
+        fail(REFUSED, "%s: cannot be read: %s", name, strerror(errno));
+    *length = fread(bytes, 1, MOST_FILE + 1, file);
+    if (ferror(file))
+        fail(REFUSED, "%s: cannot be read: %s", name, strerror(errno));
+    if (*length > MOST_FILE)
+        fail(REFUSED, "%s: longer than %d bytes; the largest file that is accepted is a header and %d bytes", name, MOST_FILE,
+             TELDRUF_MOST_PIXELS);
     fclose(file);
     return bytes;
+}
+
+/* A disk that is full may show only as the file is closed. */
+static void write_file(const char *name, const uint8_t *bytes, size_t length) {
+    FILE *file = fopen(name, "wb");
+    if (file == NULL)
+        fail(REFUSED, "%s: cannot be written: %s", name, strerror(errno));
+    if (fwrite(bytes, 1, length, file) != length || fclose(file) != 0)
+        fail(REFUSED, "%s: cannot be written whole: %s", name, strerror(errno));
 }
 
 static picture_t read_picture(const char *name) {
@@ -59,15 +85,25 @@ static picture_t read_picture(const char *name) {
     return (picture_t){head[0], head[1], (size_t)head[0] * head[1], file + head[3]};
 }
 
-static void write_picture(const char *name, const picture_t *size, const uint8_t *greys) {
-    size_t room = size->n + 17;
-    uint8_t *buffer = lend(room, 1);
-    uint64_t bytes = teldruf_write_pgm(greys, size->n, size->width, size->height, 255, buffer, room);
-    accepted(bytes, name);
-    FILE *file = fopen(name, "wb");
-    if (file == NULL || fwrite(buffer, 1, bytes, file) != bytes || fclose(file) != 0)
-        fail("cannot be written", name);
-    free(buffer);
+static void write_residue(const char *name, const picture_t *picture, const uint8_t *residue) {
+    size_t room = picture->n + 17;
+    uint8_t *file = lend(room, 1);
+    uint64_t answer = teldruf_write_pgm(residue, picture->n, picture->width, picture->height, 255, file, room);
+    write_file(name, file, accepted(answer, name));
+    free(file);
+}
+
+/* The library writes a byte a sample, so this file is made here. */
+static void write_index(const char *name, const picture_t *picture, const uint16_t *index) {
+    uint8_t *file = lend(64 + 2 * picture->n, 1);
+    size_t length =
+        (size_t)sprintf((char *)file, "P5\n%u %u\n%d\n", (unsigned)picture->width, (unsigned)picture->height, MOST_INDEX);
+    for (size_t p = 0; p < picture->n; p++) {
+        file[length++] = (uint8_t)(index[p] >> 8);
+        file[length++] = (uint8_t)(index[p] & 255);
+    }
+    write_file(name, file, length);
+    free(file);
 }
 
 static uint32_t attribute_named(const char *word) {
@@ -75,32 +111,38 @@ static uint32_t attribute_named(const char *word) {
     for (uint32_t a = 0; a < 3; a++)
         if (strcmp(word, words[a]) == 0)
             return a + 1;
-    return 0;
+    fail(WRONG_USE, "'%s' is no attribute: area, height or width", word);
 }
 
-/* Spreads the indices over the greys from black to white. */
-static uint8_t *scaled(const uint16_t *index, size_t n, size_t steps) {
-    uint8_t *greys = lend(n, 1);
-    for (size_t p = 0; p < n; p++)
-        greys[p] = (uint8_t)(index[p] * 255 / steps);
-    return greys;
+/* A number is 1 to 10 digits and nothing else, and has 32 bits; whether it is a step, the library judges. */
+static uint32_t number_of(const char *word) {
+    size_t digits = strspn(word, "0123456789");
+    uint64_t number = 0;
+    for (size_t i = 0; i < digits && i < 10; i++)
+        number = 10 * number + (uint64_t)(word[i] - '0');
+    if (digits < 1 || digits > 10 || word[digits] != '\0' || number > UINT32_MAX)
+        fail(WRONG_USE, "'%s' is no step: a whole number, in digits alone, below 4294967296", word);
+    return (uint32_t)number;
 }
 
 int main(int count, char **words) {
     if (count < 6)
-        fail("PICTURE RESIDUE INDEX area|height|width STEP..", "usage");
-    picture_t picture = read_picture(words[1]);
-    size_t n = picture.n, steps_len = (size_t)count - 5;
+        fail(WRONG_USE, "usage: PICTURE RESIDUE INDEX area|height|width STEP..");
+    uint32_t attribute = attribute_named(words[4]);
+    size_t steps_len = (size_t)count - 5;
     uint32_t *steps = lend(steps_len, sizeof *steps);
     for (size_t i = 0; i < steps_len; i++)
-        steps[i] = (uint32_t)strtoul(words[5 + i], NULL, 10);
-    uint32_t *workspace = lend(TELDRUF_WORDS_A_PIXEL * n, sizeof *workspace);
+        steps[i] = number_of(words[5 + i]);
+
+    picture_t picture = read_picture(words[1]);
+    size_t n = picture.n, workspace_len = TELDRUF_WORDS_A_PIXEL * n;
+    uint32_t *workspace = lend(workspace_len, sizeof *workspace);
     uint8_t *residue = lend(n, 1);
     uint16_t *index = lend(n, sizeof *index);
-    accepted(teldruf_map(picture.greys, n, picture.width, picture.height, attribute_named(words[4]), steps, steps_len, workspace,
-                         TELDRUF_WORDS_A_PIXEL * n, residue, n, index, n),
+    accepted(teldruf_map(picture.greys, n, picture.width, picture.height, attribute, steps, steps_len, workspace, workspace_len,
+                         residue, n, index, n),
              words[1]);
-    write_picture(words[2], &picture, residue);
-    write_picture(words[3], &picture, scaled(index, n, steps_len));
+    write_residue(words[2], &picture, residue);
+    write_index(words[3], &picture, index);
     return 0;
 }

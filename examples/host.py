@@ -1,89 +1,97 @@
-"""Maps a picture as host.c does, through a shared library that is made from the static one:
+"""Maps a picture as host.c does, through the module python/teldruf.py and a shared library that is made from the static one:
 
     gcc -shared -o libteldruf.so -Wl,--whole-archive target/staticlib/libteldruf.a -Wl,--no-whole-archive
     python3 examples/host.py ./libteldruf.so PICTURE RESIDUE INDEX area|height|width STEP..
 
-The residue map and the index map are written as PGM. The index map is for viewing: the last step is white, 0 black, those between
-spread evenly.
+The residue map has a byte a sample, the index map two, the high one first, and the maximum 256, so that every index is kept. The exit
+status is 0 if both maps are written, 1 if the library refuses or a file cannot be read or written, 2 if the words are wrong.
 """
 
-import ctypes
 import os
+import re
 import sys
 
-ATTRIBUTES = {"area": 1, "height": 2, "width": 3}
-WORDS_A_PIXEL = 6
+sys.path.insert(0, os.path.join(os.path.dirname(os.path.abspath(__file__)), os.pardir, "python"))
+import teldruf
+
+REFUSED, WRONG_USE = 1, 2
+MOST_PIXELS, MOST_INDEX = 1048576, 256
+# The largest file that is read: beside the largest raster there is room for a header with a mebibyte of comments.
+MOST_FILE = 2 * MOST_PIXELS
 
 
-class Refused(Exception):
-    """A call was refused; the number is the cause's, as teldruf.h names it."""
+class Failure(Exception):
+    """Ends the program with a status and a sentence."""
+
+    def __init__(self, status, sentence):
+        super().__init__(sentence)
+        self.status = status
 
 
-def bytes_of(entries):
-    return (ctypes.c_uint8 * len(entries)).from_buffer_copy(entries) if entries else (ctypes.c_uint8 * 1)()
+def read_file(name):
+    try:
+        with open(name, "rb") as file:
+            contents = file.read(MOST_FILE + 1)
+    except OSError as fault:
+        raise Failure(REFUSED, f"{name}: cannot be read: {fault.strerror}")
+    if len(contents) > MOST_FILE:
+        raise Failure(REFUSED, f"{name}: longer than {MOST_FILE} bytes; the largest file that is accepted is a header and "
+                               f"{MOST_PIXELS} bytes")
+    return contents
 
 
-class Teldruf:
-    def __init__(self, path):
-        self.library = ctypes.CDLL(os.path.abspath(path))
-        word, size, lent = ctypes.c_uint32, ctypes.c_size_t, ctypes.c_void_p
-        signatures = {
-            "teldruf_read_pgm": [lent, size, lent],
-            "teldruf_write_pgm": [lent, size, word, word, word, lent, size],
-            "teldruf_map": [lent, size, word, word, word, lent, size, lent, size, lent, size, lent, size],
-        }
-        for name, arguments in signatures.items():
-            function = getattr(self.library, name)
-            function.argtypes = arguments
-            function.restype = ctypes.c_uint64
+def write_file(name, contents):
+    try:
+        file = open(name, "wb")
+    except OSError as fault:
+        raise Failure(REFUSED, f"{name}: cannot be written: {fault.strerror}")
+    try:
+        with file:
+            file.write(contents)
+    except OSError as fault:
+        raise Failure(REFUSED, f"{name}: cannot be written whole: {fault.strerror}")
 
-    def call(self, name, *arguments):
-        """The value of an accepted call."""
-        answer = getattr(self.library, name)(*arguments)
-        if answer >> 32:
-            raise Refused(f"{name} refused: {answer >> 32}")
-        return answer
 
-    def read_pgm(self, file):
-        """Width, height and the raster."""
-        head = (ctypes.c_uint32 * 4)()
-        self.call("teldruf_read_pgm", bytes_of(file), len(file), head)
-        return head[0], head[1], file[head[3]:]
+def index_file(picture, index):
+    """The library writes a byte a sample, so this file is made here."""
+    head = f"P5\n{picture.width} {picture.height}\n{MOST_INDEX}\n".encode()
+    if sys.byteorder == "little":
+        index.byteswap()
+    return head + index.tobytes()
 
-    def write_pgm(self, greys, width, height):
-        room = len(greys) + 17
-        buffer = (ctypes.c_uint8 * room)()
-        count = self.call("teldruf_write_pgm", bytes_of(greys), len(greys), width, height, 255, buffer, room)
-        return ctypes.string_at(buffer, count)
 
-    def map(self, greys, width, height, attribute, steps):
-        """Residue map as bytes and index map as a list."""
-        n = len(greys)
-        listed = (ctypes.c_uint32 * max(len(steps), 1))(*steps)
-        workspace = (ctypes.c_uint32 * (WORDS_A_PIXEL * n))()
-        residue, index = (ctypes.c_uint8 * n)(), (ctypes.c_uint16 * n)()
-        self.call("teldruf_map", bytes_of(greys), n, width, height, attribute, listed, len(steps),
-                  workspace, WORDS_A_PIXEL * n, residue, n, index, n)
-        return bytes(residue), list(index)
+def number_of(word):
+    """A number is 1 to 10 digits and nothing else, and has 32 bits; whether it is a step, the library judges."""
+    if re.fullmatch("[0-9]{1,10}", word) is None or int(word) >= 2 ** 32:
+        raise Failure(WRONG_USE, f"'{word}' is no step: a whole number, in digits alone, below 4294967296")
+    return int(word)
 
 
 def main(words):
     if len(words) < 6:
-        sys.exit(__doc__)
-    library, picture, residue_name, index_name, attribute = words[:5]
-    steps = [int(word) for word in words[5:]]
-    teldruf = Teldruf(library)
-    with open(picture, "rb") as file:
-        width, height, greys = teldruf.read_pgm(file.read())
-    residue, index = teldruf.map(greys, width, height, ATTRIBUTES.get(attribute, 0), steps)
-    shown = bytes(i * 255 // len(steps) for i in index)
-    for name, entries in ((residue_name, residue), (index_name, shown)):
-        with open(name, "wb") as file:
-            file.write(teldruf.write_pgm(entries, width, height))
+        raise Failure(WRONG_USE, "usage: LIBRARY PICTURE RESIDUE INDEX area|height|width STEP..")
+    library, picture_name, residue_name, index_name, attribute = words[:5]
+    if attribute not in teldruf.ATTRIBUTES:
+        raise Failure(WRONG_USE, f"'{attribute}' is no attribute: area, height or width")
+    steps = [number_of(word) for word in words[5:]]
+    try:
+        teldruf.load(library)
+    except OSError as fault:
+        raise Failure(REFUSED, f"{library}: cannot be loaded: {fault}")
+    contents = read_file(picture_name)
+    try:
+        picture = teldruf.read(contents)
+        residue, index = teldruf.map(picture, steps, attribute)
+        residue_file = teldruf.write(picture._replace(maximum=255, raster=residue))
+    except teldruf.Refused as refusal:
+        raise Failure(REFUSED, f"{picture_name}: {refusal}")
+    write_file(residue_name, residue_file)
+    write_file(index_name, index_file(picture, index))
 
 
 if __name__ == "__main__":
     try:
         main(sys.argv[1:])
-    except (Refused, OSError) as fault:
-        sys.exit(f"host.py: {fault}")
+    except Failure as failure:
+        print(f"host: {failure}", file=sys.stderr)
+        sys.exit(failure.status)

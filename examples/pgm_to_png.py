@@ -11,11 +11,14 @@ import sys
 import zlib
 
 
-def read_pgm(file):
-    head = re.match(rb"P5\s+(\d+)\s+(\d+)\s+255\s", file)
-    if head is None:
-        sys.exit("pgm_to_png.py: not a PGM file of maximum 255 without comments")
-    return int(head[1]), int(head[2]), file[head.end():]
+def read_pgm(name, maximum):
+    """Width, height and raster of a file that an example wrote with this maximum."""
+    with open(name, "rb") as file:
+        contents = file.read()
+    head = re.match(rb"P5\s+(\d+)\s+(\d+)\s+(\d+)\s", contents)
+    if head is None or int(head[3]) != maximum:
+        sys.exit(f"{name}: not a PGM file of maximum {maximum} without comments")
+    return int(head[1]), int(head[2]), contents[head.end():]
 
 
 def chunk(name, contents):
@@ -23,21 +26,23 @@ def chunk(name, contents):
     return struct.pack(">I", len(contents)) + name + contents + struct.pack(">I", check)
 
 
-def png(width, height, raster):
-    """Eight bits a pixel, grey; each row starts with a 0, which says that it is not filtered."""
-    rows = b"".join(b"\0" + raster[y * width:(y + 1) * width] for y in range(height))
-    head = struct.pack(">IIBBBBB", width, height, 8, 0, 0, 0, 0)
-    packed = zlib.compress(rows, 9)
+GREY, RGB = 0, 2
+
+
+def png(width, height, colour, rows):
+    """Eight bits a sample, grey or RGB; a 0 before each row says that it is not filtered."""
+    head = struct.pack(">IIBBBBB", width, height, 8, colour, 0, 0, 0)
+    packed = zlib.compress(b"".join(b"\0" + row for row in rows), 9)
     return b"\x89PNG\r\n\x1a\n" + chunk(b"IHDR", head) + chunk(b"IDAT", packed) + chunk(b"IEND", b"")
 
 
 def main(words):
     if len(words) != 2:
         sys.exit(__doc__)
-    with open(words[0], "rb") as file:
-        width, height, raster = read_pgm(file.read())
+    width, height, raster = read_pgm(words[0], 255)
+    rows = [raster[y * width:(y + 1) * width] for y in range(height)]
     with open(words[1], "wb") as file:
-        file.write(png(width, height, raster))
+        file.write(png(width, height, GREY, rows))
 
 
 if __name__ == "__main__":

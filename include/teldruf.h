@@ -21,20 +21,20 @@
 extern "C" {
 #endif
 
-/* The causes of refusal that these calls have. */
+/* The causes of refusal that these calls have; teldruf_cause_text says each in words. */
 enum {
-    TELDRUF_SIDES = 1,          /* width or height outside 1 to 4,096, or n above 1,048,576 */
-    TELDRUF_PICTURE_LENGTH = 2, /* picture bytes not n */
-    TELDRUF_ATTRIBUTE = 3,      /* attribute not 1, 2 or 3 */
-    TELDRUF_STEPS = 4,          /* threshold outside 1 to 1,048,577; step list empty, over 256 or not strictly rising */
-    TELDRUF_WORKSPACE = 5,      /* workspace not 6n words */
-    TELDRUF_OUTPUT_LENGTH = 6,  /* an output not n entries */
-    TELDRUF_BUFFER = 7,         /* the writer's buffer shorter than the file */
-    TELDRUF_SIGN = 8,           /* the file does not start with P5 */
-    TELDRUF_HEADER = 9,         /* the header broken or ended early */
-    TELDRUF_MAXIMUM = 10,       /* maximum 0 or above 255 */
-    TELDRUF_RASTER_LENGTH = 11, /* raster bytes not n */
-    TELDRUF_SAMPLE = 12         /* a sample above the maximum */
+    TELDRUF_SIDES = 1,
+    TELDRUF_PICTURE_LENGTH = 2,
+    TELDRUF_ATTRIBUTE = 3,
+    TELDRUF_STEPS = 4,
+    TELDRUF_WORKSPACE = 5,
+    TELDRUF_OUTPUT_LENGTH = 6,
+    TELDRUF_BUFFER = 7,
+    TELDRUF_SIGN = 8,
+    TELDRUF_HEADER = 9,
+    TELDRUF_MAXIMUM = 10,
+    TELDRUF_RASTER_LENGTH = 11,
+    TELDRUF_SAMPLE = 12
 };
 
 /* Attributes of a connected set of pixels. */
@@ -55,6 +55,40 @@ enum {
 /* The number of the cause in an answer, 0 if the call was accepted. */
 static inline uint32_t teldruf_cause(uint64_t answer) {
     return (uint32_t)(answer >> 32);
+}
+
+/* A cause in words, by its number. Any other number has words too, so that a message can always be made. */
+static inline const char *teldruf_cause_text(uint32_t number) {
+    switch (number) {
+    case 0:
+        return "accepted";
+    case TELDRUF_SIDES:
+        return "width or height outside 1 to 4,096, or more than 1,048,576 pixels";
+    case TELDRUF_PICTURE_LENGTH:
+        return "picture bytes not width x height";
+    case TELDRUF_ATTRIBUTE:
+        return "attribute not 1, 2 or 3 (area, height or width)";
+    case TELDRUF_STEPS:
+        return "threshold outside 1 to 1,048,577, or step list empty, over 256 or not strictly rising";
+    case TELDRUF_WORKSPACE:
+        return "workspace not 6 words a pixel";
+    case TELDRUF_OUTPUT_LENGTH:
+        return "an output not one entry a pixel";
+    case TELDRUF_BUFFER:
+        return "the writer's buffer shorter than the file";
+    case TELDRUF_SIGN:
+        return "the file does not start with P5, so it is no binary PGM";
+    case TELDRUF_HEADER:
+        return "the header broken or ended early";
+    case TELDRUF_MAXIMUM:
+        return "maximum 0 or above 255";
+    case TELDRUF_RASTER_LENGTH:
+        return "raster bytes not width x height";
+    case TELDRUF_SAMPLE:
+        return "a sample above the maximum";
+    default:
+        return "no cause of this library";
+    }
 }
 
 /*

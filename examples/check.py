@@ -1,0 +1,219 @@
+"""Checks the module python/teldruf.py and both hosts, as examples/run has built them in a folder: examples/check.py FOLDER"""
+
+import os
+import subprocess
+import sys
+import tempfile
+import unittest
+
+HERE = os.path.dirname(os.path.abspath(__file__))
+sys.path.insert(0, os.path.join(HERE, os.pardir, "python"))
+import teldruf
+from teldruf import Picture
+
+try:
+    import numpy
+except ImportError:
+    numpy = None
+
+FOLDER = sys.argv.pop(1)
+LIBRARY = os.path.join(FOLDER, "libteldruf.so")
+HOSTS = [os.path.join(FOLDER, "host")], [sys.executable, os.path.join(HERE, "host.py"), LIBRARY]
+
+# A picture of one row, with its tree, an opening and maps by area at the steps 1 2 3 4, worked out by hand.
+GREYS = bytes([10, 30, 20, 50, 10])
+ROW = Picture(5, 1, 255, GREYS)
+FILE = b"P5\n5 1\n255\n" + GREYS
+PARENTS, ATTRIBUTES, NODES = [0, 2, 0, 2, 0], [5, 1, 3, 1, 0], 4
+OPENED_AT_2 = bytes([10, 20, 20, 20, 10])
+RESIDUE, INDEX = bytes([0, 10, 10, 30, 0]), [0, 4, 4, 2, 0]
+
+
+class Module(unittest.TestCase):
+    def test_each_call_on_each_kind_of_buffer(self):
+        self.assertEqual(teldruf.read(FILE), ROW)
+        self.assertEqual(teldruf.read(memoryview(bytearray(FILE))), ROW)
+        rows = memoryview(GREYS).cast("B", (1, 5))
+        for picture in ROW, ROW._replace(raster=bytearray(GREYS)), ROW._replace(raster=memoryview(GREYS)), rows:
+            with self.subTest(type(getattr(picture, "raster", picture))):
+                self.assertEqual(teldruf.write(picture), FILE)
+                tree = teldruf.build(picture)
+                self.assertEqual((tree.nodes, list(tree.parents), list(tree.attributes)), (NODES, PARENTS, ATTRIBUTES))
+                opened = teldruf.open(picture, 2)
+                self.assertEqual(opened, OPENED_AT_2 if picture is rows else ROW._replace(raster=OPENED_AT_2))
+                maps = teldruf.map(picture, [1, 2, 3, 4])
+                self.assertEqual((maps.residue, list(maps.index), maps.index.itemsize), (RESIDUE, INDEX, 2))
+
+    def test_attributes_by_name_and_number(self):
+        for name, number in teldruf.ATTRIBUTES.items():
+            self.assertEqual(teldruf.map(ROW, [1, 2], name), teldruf.map(ROW, (1, 2), attribute=number))
+        self.assertEqual(teldruf.map(ROW, [1, 2], "height").residue, bytes([0, 20, 10, 40, 0]))
+        self.assertEqual(list(teldruf.build(ROW, "width").attributes), ATTRIBUTES)
+
+    def test_refusals_have_number_and_words(self):
+        long = bytes(teldruf._MOST_PIXELS + 1)
+        for number, call in [
+            (1, lambda: teldruf.build(ROW._replace(width=4097))),
+            (1, lambda: teldruf.write(Picture(0, 0, 255, b""))),
+            (2, lambda: teldruf.open(ROW._replace(height=2), 1)),
+            (2, lambda: teldruf.map(ROW._replace(raster=long), [1])),
+            (3, lambda: teldruf.build(ROW, 4)),
+            (4, lambda: teldruf.open(ROW, 1048578)),
+            (4, lambda: teldruf.map(ROW, [])),
+            (4, lambda: teldruf.map(ROW, [2, 2])),
+            (8, lambda: teldruf.read(b"")),
+            (9, lambda: teldruf.read(FILE[:6])),
+            (10, lambda: teldruf.write(ROW._replace(maximum=256))),
+            (11, lambda: teldruf.read(FILE[:-1])),
+            (12, lambda: teldruf.write(ROW._replace(maximum=49))),
+        ]:
+            with self.subTest(number), self.assertRaises(teldruf.Refused) as caught:
+                call()
+            self.assertEqual((caught.exception.number, caught.exception.words), (number, teldruf.cause_text(number)))
+            self.assertEqual(str(caught.exception), f"refused {number}: {teldruf.cause_text(number)}")
+
+    def test_numbers_are_never_cut(self):
+        places = [
+            lambda bad: teldruf.write(ROW._replace(width=bad)),
+            lambda bad: teldruf.build(ROW._replace(height=bad)),
+            lambda bad: teldruf.write(ROW._replace(maximum=bad)),
+            lambda bad: teldruf.build(ROW, bad),
+            lambda bad: teldruf.open(ROW, bad),
+            lambda bad: teldruf.map(ROW, [bad]),
+        ]
+        for place, call in enumerate(places):
+            for bad, kind in (-1, ValueError), (2 ** 32 + 5, ValueError), (True, TypeError), (5.0, TypeError), (None, TypeError):
+                with self.subTest(place=place, bad=bad), self.assertRaises(kind):
+                    call(bad)
+
+    def test_other_wrong_arguments(self):
+        for kind, call in [
+            (ValueError, lambda: teldruf.build(ROW, "depth")),
+            (TypeError, lambda: teldruf.open(ROW, "2")),
+            (TypeError, lambda: teldruf.map(ROW, 2)),
+            (TypeError, lambda: teldruf.map(ROW, "12")),
+            (TypeError, lambda: teldruf.map(list(GREYS), [1])),
+            (TypeError, lambda: teldruf.map(GREYS, [1])),
+            (TypeError, lambda: teldruf.build(ROW._replace(raster=list(GREYS)))),
+            (TypeError, lambda: teldruf.build(ROW._replace(raster=memoryview(GREYS).cast("b")))),
+            (TypeError, lambda: teldruf.read("P5")),
+            (OSError, lambda: teldruf.load(os.path.join(FOLDER, "missing.so"))),
+        ]:
+            with self.assertRaises(kind):
+                call()
+        self.assertEqual(teldruf.read(FILE), ROW)  # the library that was loaded stays
+
+    def test_words_are_those_of_the_header(self):
+        lines = subprocess.run([os.path.join(FOLDER, "causes")], capture_output=True, text=True, check=True).stdout.splitlines()
+        self.assertGreater(len(lines), 13)
+        for line in lines:
+            number, words = line.split("\t")
+            self.assertEqual(teldruf.cause_text(int(number)), words)
+
+    @unittest.skipIf(numpy is None, "numpy is not installed")
+    def test_numpy_arrays_give_numpy_arrays(self):
+        row = numpy.frombuffer(GREYS, numpy.uint8).reshape(1, 5)
+        wide = numpy.zeros((2, 10), numpy.uint8)
+        wide[::2, ::2] = row
+        for image in row, wide[::2, ::2], numpy.asfortranarray(row), Picture(5, 1, 255, row):
+            tree, maps = teldruf.build(image), teldruf.map(image, numpy.arange(1, 5))
+            opened = teldruf.open(image, numpy.int64(2))
+            opened = opened.raster if isinstance(opened, Picture) else opened
+            for got, kind, expected in [(tree.parents, "uint32", PARENTS), (tree.attributes, "uint32", ATTRIBUTES),
+                                        (opened, "uint8", list(OPENED_AT_2)), (maps.residue, "uint8", list(RESIDUE)),
+                                        (maps.index, "uint16", INDEX)]:
+                self.assertEqual((got.dtype.name, got.tolist()), (kind, [expected]))
+            self.assertEqual(teldruf.write(image), FILE)
+        self.assertEqual(teldruf.map(row.T, [6]).residue.shape, (5, 1))
+        for bad in row.astype(float), row.astype(bool), row.astype("uint16"), row[0], numpy.array(3, numpy.uint8):
+            with self.assertRaises(TypeError):
+                teldruf.map(bad, [1])
+        for bad in numpy.array([1.0]), numpy.array([True]):
+            with self.assertRaises(TypeError):
+                teldruf.map(row, bad)
+
+
+class Hosts(unittest.TestCase):
+    def setUp(self):
+        folder = tempfile.TemporaryDirectory()
+        self.addCleanup(folder.cleanup)
+        self.folder = folder.name
+        self.picture = self.file("row.pgm", FILE)
+        self.out = self.path("residue.pgm"), self.path("index.pgm")
+
+    def path(self, name):
+        return os.path.join(self.folder, name)
+
+    def file(self, name, contents):
+        with open(self.path(name), "wb") as file:
+            file.write(contents)
+        return self.path(name)
+
+    def contents(self):
+        found = []
+        for name in self.out:
+            with open(name, "rb") as file:
+                found.append(file.read())
+            os.remove(name)
+        return found
+
+    def fails(self, status, words, *arguments):
+        """Both hosts end with this status and the same single sentence, in which these words stand."""
+        sentences = set()
+        for host in HOSTS:
+            ended = subprocess.run([*host, *arguments], capture_output=True, text=True, timeout=60)
+            self.assertEqual((ended.returncode, ended.stdout), (status, ""), ended.stderr)
+            sentences.add(ended.stderr)
+        self.assertEqual(len(sentences), 1, sentences)
+        sentence = sentences.pop()
+        self.assertRegex(sentence, r"\Ahost: [^\n]+\n\Z")
+        self.assertIn(words, sentence)
+
+    def test_maps(self):
+        for host in HOSTS:
+            subprocess.run([*host, self.picture, *self.out, "area", "1", "2", "3", "4"], check=True)
+            index = b"".join(i.to_bytes(2, "big") for i in INDEX)
+            self.assertEqual(self.contents(), [b"P5\n5 1\n255\n" + RESIDUE, b"P5\n5 1\n256\n" + index])
+
+    def test_every_index_is_kept(self):
+        picture = self.file("long.pgm", b"P5 258 1 9\n" + b"\0" + b"\x09" * 255 + b"\0\0")
+        steps = [str(step) for step in range(1, 257)]
+        for host in HOSTS:
+            subprocess.run([*host, picture, *self.out, "area", *steps], check=True)
+            self.assertEqual(self.contents()[1], b"P5\n258 1\n256\n" + bytes(2) + b"\1\0" * 255 + bytes(4))
+
+    def test_wrong_use(self):
+        for word in "8x", "4294967304", "-1", "+8", "", " 8", "8 ", "0x8", "8.0", "99999999999999999999", "\u0668":
+            self.fails(2, f"'{word}' is no step", self.picture, *self.out, "area", "1", word)
+        self.fails(2, "'depth' is no attribute", self.picture, *self.out, "depth", "1")
+        for host in HOSTS:
+            self.assertEqual(subprocess.run([*host, self.picture], capture_output=True).returncode, 2)
+
+    def test_refusals(self):
+        for number, words, contents in [(4, ("0",), FILE), (4, ("4294967295",), FILE), (8, ("1",), b""), (11, ("1",), FILE[:-1])]:
+            picture = self.file("refused.pgm", contents)
+            self.fails(1, f"refused {number}: {teldruf.cause_text(number)}", picture, *self.out, "area", *words)
+        self.assertFalse(any(os.path.exists(name) for name in self.out))
+
+    def test_files_that_cannot_be_read(self):
+        self.fails(1, "cannot be read: Is a directory", self.folder, *self.out, "area", "1")
+        self.fails(1, "cannot be read: No such file", self.path("missing.pgm"), *self.out, "area", "1")
+        self.fails(1, "a header and 1048576 bytes", "/dev/zero", *self.out, "area", "1")
+
+    def test_files_that_cannot_be_written(self):
+        large = self.file("large.pgm", b"P5 1024 1024 255\n" + bytes(1024 * 1024))
+        for picture in self.picture, large:
+            self.fails(1, "/dev/full: cannot be written whole: No space", picture, "/dev/full", self.out[1], "area", "1")
+            self.fails(1, "/dev/full: cannot be written whole: No space", picture, self.out[0], "/dev/full", "area", "1")
+        missing = os.path.join(self.path("missing"), "residue.pgm")
+        self.fails(1, "cannot be written: No such file", self.picture, missing, self.out[1], "area", "1")
+
+    def test_a_header_may_be_long_and_the_picture_large(self):
+        picture = self.file("comments.pgm", b"P5 #" + b" " * 1048500 + b"\n1024 1024 255\n" + bytes(1024 * 1024))
+        for host in HOSTS:
+            subprocess.run([*host, picture, *self.out, "width", "1"], check=True)
+
+
+if __name__ == "__main__":
+    teldruf.load(LIBRARY)
+    unittest.main()

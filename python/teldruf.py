@@ -1,0 +1,253 @@
+"""Teldruf from Python: sizes floc in grey pictures by ultimate attribute openings.
+
+    import pathlib, teldruf
+    picture = teldruf.read(pathlib.Path("picture.pgm").read_bytes())
+    residue, index = teldruf.map(picture, [8, 16, 32, 64, 128])
+
+A picture is a Picture, whose raster is bytes or another buffer of bytes (bytearray, memoryview, numpy array of uint8), or a buffer of
+bytes with rows and columns, such as a numpy array of two dimensions. Results are bytes or arrays, row by row; where the greys came as
+a numpy array they are numpy arrays of its shape.
+
+A call that the library refuses raises Refused, with the cause's number and words. An argument that no call could be given raises
+TypeError or ValueError before any call: numbers are whole and fit 32 bits.
+
+The shared library is target/libteldruf.so of this checkout unless `load` names another. It is made of the static one:
+
+    gcc -shared -o target/libteldruf.so -Wl,--whole-archive target/staticlib/libteldruf.a -Wl,--no-whole-archive
+"""
+
+import ctypes
+import numbers
+import os
+import sys
+from array import array
+from typing import Any, NamedTuple
+
+__all__ = ["ATTRIBUTES", "Maps", "Picture", "Refused", "Tree", "build", "cause_text", "load", "map", "open", "read", "write"]
+
+ATTRIBUTES = {"area": 1, "height": 2, "width": 3}
+
+# The words of include/teldruf.h.
+_CAUSES = {
+    0: "accepted",
+    1: "width or height outside 1 to 4,096, or more than 1,048,576 pixels",
+    2: "picture bytes not width x height",
+    3: "attribute not 1, 2 or 3 (area, height or width)",
+    4: "threshold outside 1 to 1,048,577, or step list empty, over 256 or not strictly rising",
+    5: "workspace not 6 words a pixel",
+    6: "an output not one entry a pixel",
+    7: "the writer's buffer shorter than the file",
+    8: "the file does not start with P5, so it is no binary PGM",
+    9: "the header broken or ended early",
+    10: "maximum 0 or above 255",
+    11: "raster bytes not width x height",
+    12: "a sample above the maximum",
+}
+
+_MOST_PIXELS = 1048576
+_WORDS_A_PIXEL = 6
+_MOST_HEADER = 17  # bytes that the writer puts before the raster
+
+
+def cause_text(number):
+    """A cause in words, by its number, as teldruf_cause_text of include/teldruf.h."""
+    return _CAUSES.get(number, "no cause of this library")
+
+
+class Refused(Exception):
+    """A call was refused: `number` is the cause's, `words` say it."""
+
+    def __init__(self, number):
+        super().__init__(number)
+        self.number = number
+        self.words = cause_text(number)
+
+    def __str__(self):
+        return f"refused {self.number}: {self.words}"
+
+
+class Picture(NamedTuple):
+    """A grey picture: its sides, the maximum grey of its file, and its greys row by row from the top left."""
+
+    width: int
+    height: int
+    maximum: int
+    raster: Any
+
+
+class Tree(NamedTuple):
+    """A max-tree: its number of nodes, and two words a pixel, as teldruf_build of include/teldruf.h says."""
+
+    nodes: int
+    parents: Any
+    attributes: Any
+
+
+class Maps(NamedTuple):
+    """At each pixel the largest residue, and the largest place in the step list, from 1, that has it (0 where the residue is 0)."""
+
+    residue: Any
+    index: Any
+
+
+def read(file):
+    """The Picture in the bytes of a binary PGM file; its raster is bytes."""
+    file = _bytes(file, "a file")
+    head = _zeros("I", 4)
+    _call("read_pgm", *_lend(file), head.buffer_info()[0])
+    width, height, maximum, _ = head
+    return Picture(width, height, maximum, file[len(file) - width * height:].tobytes())
+
+
+def write(picture):
+    """The bytes of a binary PGM file of a picture. The maximum is the Picture's; for an array it is 255."""
+    picture, greys = _taken(picture)
+    buffer = _zeros("B", min(len(greys), _MOST_PIXELS) + _MOST_HEADER)
+    count = _call("write_pgm", *_lend(greys), picture.width, picture.height, picture.maximum, *_lend(buffer))
+    return buffer[:count].tobytes()
+
+
+def build(picture, attribute="area"):
+    """The max-tree of a picture: a Tree of its number of nodes, parents and attributes."""
+    picture, greys = _taken(picture)
+    workspace = _workspace(greys)
+    nodes = _call("build", *_lend(greys), picture.width, picture.height, _attribute(attribute), *_lend(workspace))
+    n = len(greys)
+    return Tree(nodes, _like(picture.raster, workspace[:n]), _like(picture.raster, workspace[n:2 * n]))
+
+
+def open(picture, threshold, attribute="area"):
+    """The picture opened at a threshold: a Picture if a Picture is given, else its greys."""
+    taken, greys = _taken(picture)
+    threshold = _word(threshold, "a threshold")
+    workspace, output = _workspace(greys), _entries("B", greys)
+    _call("open", *_lend(greys), taken.width, taken.height, _attribute(attribute), threshold, *_lend(workspace), *_lend(output))
+    opened = taken._replace(raster=_like(taken.raster, output))
+    return opened if isinstance(picture, Picture) else opened.raster
+
+
+def map(picture, steps, attribute="area"):
+    """The Maps of a picture, residue and index, for strictly rising steps. An index is a place in the list: its size is
+    steps[index - 1]."""
+    picture, greys = _taken(picture)
+    listed = array("I", [_word(step, "a step") for step in steps])
+    workspace, residue, index = _workspace(greys), _entries("B", greys), _entries("H", greys)
+    _call("map", *_lend(greys), picture.width, picture.height, _attribute(attribute), *_lend(listed), *_lend(workspace),
+          *_lend(residue), *_lend(index))
+    return Maps(_like(picture.raster, residue), _like(picture.raster, index))
+
+
+# Arguments are judged here as far as they could reach the library as something else: ctypes cuts numbers to 32 bits without a word.
+
+def _word(value, what):
+    """A whole number of 32 bits, which every number of a call is."""
+    if isinstance(value, bool) or not isinstance(value, numbers.Integral):
+        raise TypeError(f"{what} is a whole number, not {value!r}")
+    number = int(value)
+    if not 0 <= number < 2 ** 32:
+        raise ValueError(f"{what} is a number of 32 bits, 0 or more, not {number}")
+    return number
+
+
+def _attribute(attribute):
+    """The number of an attribute, which may be named or numbered."""
+    if not isinstance(attribute, str):
+        return _word(attribute, "an attribute")
+    if attribute not in ATTRIBUTES:
+        raise ValueError(f"an attribute is {', '.join(ATTRIBUTES)}, not {attribute!r}")
+    return ATTRIBUTES[attribute]
+
+
+def _view(buffer, what):
+    try:
+        view = memoryview(buffer)
+    except TypeError:
+        raise TypeError(f"{what} is a buffer of bytes, not {type(buffer).__name__}") from None
+    if view.format != "B":
+        raise TypeError(f"{what} is a buffer of bytes (format B, uint8), not of format {view.format}")
+    return view
+
+
+def _bytes(buffer, what):
+    """A copy, row by row: nobody else can write it while a call, which lets other threads run, reads it."""
+    return array("B", _view(buffer, what).tobytes())
+
+
+def _taken(picture):
+    """The picture as a Picture with numbers of 32 bits, and a copy of its greys."""
+    if not isinstance(picture, Picture):
+        shape = _view(picture, "a picture that is no Picture").shape
+        if len(shape) != 2:
+            raise TypeError(f"a picture is a Picture or has rows and columns, not {len(shape)} dimensions")
+        picture = Picture(shape[1], shape[0], 255, picture)
+    width, height, maximum, raster = picture
+    head = _word(width, "a width"), _word(height, "a height"), _word(maximum, "a maximum")
+    return Picture(*head, raster), _bytes(raster, "a raster")
+
+
+# Memory for the calls. A raster that is longer than any picture is refused (1 or 2) before other lengths are judged, so nothing of
+# its length is made.
+
+def _zeros(code, entries):
+    return array(code, [0]) * entries
+
+
+def _entries(code, greys):
+    """An output: an entry a pixel."""
+    return _zeros(code, min(len(greys), _MOST_PIXELS))
+
+
+def _workspace(greys):
+    return _zeros("I", _WORDS_A_PIXEL * min(len(greys), _MOST_PIXELS))
+
+
+_SOMEWHERE = _zeros("I", 1)
+
+
+def _lend(memory):
+    """The two arguments for a run: where it starts, which is not null for an empty one either, and its number of entries."""
+    start, entries = memory.buffer_info()
+    return start or _SOMEWHERE.buffer_info()[0], entries
+
+
+def _like(raster, entries):
+    """What a call wrote, as the raster came: a numpy array of the same shape, or bytes, or an array of larger entries."""
+    numpy = sys.modules.get("numpy")
+    if numpy is not None and isinstance(raster, numpy.ndarray):
+        return numpy.asarray(entries).reshape(raster.shape)
+    return entries.tobytes() if entries.typecode == "B" else entries
+
+
+_loaded = None
+
+
+def load(path):
+    """Names the shared library that the calls after this go to."""
+    global _loaded
+    library = ctypes.CDLL(os.path.abspath(path))
+    word, run = ctypes.c_uint32, [ctypes.c_void_p, ctypes.c_size_t]
+    picture = run + [word, word]
+    signatures = {
+        "read_pgm": run + [ctypes.c_void_p],
+        "write_pgm": picture + [word] + run,
+        "build": picture + [word] + run,
+        "open": picture + [word, word] + run + run,
+        "map": picture + [word] + run + run + run + run,
+    }
+    for name, arguments in signatures.items():
+        try:
+            function = getattr(library, "teldruf_" + name)
+        except AttributeError as fault:
+            raise OSError(f"{path}: not Teldruf's library: {fault}") from None
+        function.argtypes, function.restype = arguments, ctypes.c_uint64
+    _loaded = library
+
+
+def _call(name, *arguments):
+    """The value of an accepted call."""
+    if _loaded is None:
+        load(os.path.join(os.path.dirname(os.path.abspath(__file__)), os.pardir, "target", "libteldruf.so"))
+    answer = getattr(_loaded, "teldruf_" + name)(*arguments)
+    if answer >> 32:
+        raise Refused(answer >> 32)
+    return answer
