@@ -1,13 +1,19 @@
-"""Checks the module python/teldruf.py and both hosts, as examples/run has built them in a folder: examples/check.py FOLDER"""
+"""Checks the module python/teldruf.py, both hosts and the coloured index map, as examples/run has built them in a folder:
+
+    python3 examples/check.py FOLDER
+"""
 
 import os
+import struct
 import subprocess
 import sys
 import tempfile
 import unittest
+import zlib
 
 HERE = os.path.dirname(os.path.abspath(__file__))
 sys.path.insert(0, os.path.join(HERE, os.pardir, "python"))
+import index_to_png
 import teldruf
 from teldruf import Picture
 
@@ -51,7 +57,7 @@ class Module(unittest.TestCase):
         self.assertEqual(list(teldruf.build(ROW, "width").attributes), ATTRIBUTES)
 
     def test_refusals_have_number_and_words(self):
-        long = bytes(teldruf._MOST_PIXELS + 1)
+        long = bytes(1048577)
         for number, call in [
             (1, lambda: teldruf.build(ROW._replace(width=4097))),
             (1, lambda: teldruf.write(Picture(0, 0, 255, b""))),
@@ -183,7 +189,7 @@ class Hosts(unittest.TestCase):
             self.assertEqual(self.contents()[1], b"P5\n258 1\n256\n" + bytes(2) + b"\1\0" * 255 + bytes(4))
 
     def test_wrong_use(self):
-        for word in "8x", "4294967304", "-1", "+8", "", " 8", "8 ", "0x8", "8.0", "99999999999999999999", "\u0668":
+        for word in "8x", "4294967304", "-1", "+8", "", " 8", "8 ", "0x8", "8.0", "99999999999999999999":
             self.fails(2, f"'{word}' is no step", self.picture, *self.out, "area", "1", word)
         self.fails(2, "'depth' is no attribute", self.picture, *self.out, "depth", "1")
         for host in HOSTS:
@@ -212,6 +218,27 @@ class Hosts(unittest.TestCase):
         picture = self.file("comments.pgm", b"P5 #" + b" " * 1048500 + b"\n1024 1024 255\n" + bytes(1024 * 1024))
         for host in HOSTS:
             subprocess.run([*host, picture, *self.out, "width", "1"], check=True)
+
+
+class Colours(unittest.TestCase):
+    def test_any_size_and_number_of_steps(self):
+        for width, height, count in (1, 1, 1), (3, 1, 2), (300, 2, 16), (2, 300, 17), (4096, 3, 256):
+            with self.subTest(width=width, height=height, count=count):
+                steps = list(range(1048578 - count, 1048578))
+                index = [p % (count + 1) for p in range(width * height)]
+                png = index_to_png.coloured(width, height, index, "height", steps)
+                wide, high = struct.unpack(">II", png[16:24])
+                self.assertTrue(wide >= width and high > height)
+                packed = struct.unpack(">I", png[33:37])[0]
+                self.assertEqual(len(zlib.decompress(png[41:41 + packed])), (1 + 3 * wide) * high)
+
+    def test_up_to_16_steps_have_a_colour_and_a_name_each(self):
+        for count in range(1, 17):
+            colours = index_to_png.colours_of(count)
+            self.assertEqual(len(set(colours)), 1 + count)
+            names = [name for name, _ in index_to_png.entries_of("area", range(1, 1 + count), colours)]
+            self.assertEqual(names, ["area", "none"] + [str(step) for step in range(1, 1 + count)])
+        self.assertEqual(len(set(index_to_png.colours_of(256))), 257)
 
 
 if __name__ == "__main__":

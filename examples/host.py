@@ -3,8 +3,8 @@
     gcc -shared -o libteldruf.so -Wl,--whole-archive target/staticlib/libteldruf.a -Wl,--no-whole-archive
     python3 examples/host.py ./libteldruf.so PICTURE RESIDUE INDEX area|height|width STEP..
 
-The residue map has a byte a sample, the index map two, the high one first, and the maximum 256, so that every index is kept. The exit
-status is 0 if both maps are written, 1 if the library refuses or a file cannot be read or written, 2 if the words are wrong.
+The residue map has a byte a sample, the index map two, the high one first, and the maximum 256, so that every index is kept. The
+exit status is 0 if both maps are written, 1 if the library refuses or a file cannot be read or written, 2 if the words are wrong.
 """
 
 import os
@@ -63,7 +63,7 @@ def index_file(picture, index):
 def number_of(word):
     """A number is 1 to 10 digits and nothing else, and has 32 bits; whether it is a step, the library judges."""
     if re.fullmatch("[0-9]{1,10}", word) is None or int(word) >= 2 ** 32:
-        raise Failure(WRONG_USE, f"'{word}' is no step: a whole number, in digits alone, below 4294967296")
+        raise Failure(WRONG_USE, f"'{word}' is no step: steps are whole numbers from 1 to 1048577, in digits alone")
     return int(word)
 
 

@@ -4,9 +4,9 @@
     picture = teldruf.read(pathlib.Path("picture.pgm").read_bytes())
     residue, index = teldruf.map(picture, [8, 16, 32, 64, 128])
 
-A picture is a Picture, whose raster is bytes or another buffer of bytes (bytearray, memoryview, numpy array of uint8), or a buffer of
-bytes with rows and columns, such as a numpy array of two dimensions. Results are bytes or arrays, row by row; where the greys came as
-a numpy array they are numpy arrays of its shape.
+A picture is a Picture, whose raster is bytes or another buffer of bytes (bytearray, memoryview, numpy array of uint8), or a buffer
+of bytes with rows and columns, such as a numpy array of two dimensions. Results are bytes or arrays, row by row; where the greys
+came as a numpy array they are numpy arrays of its shape.
 
 A call that the library refuses raises Refused, with the cause's number and words. An argument that no call could be given raises
 TypeError or ValueError before any call: numbers are whole and fit 32 bits.
@@ -176,9 +176,9 @@ def _bytes(buffer, what):
 def _taken(picture):
     """The picture as a Picture with numbers of 32 bits, and a copy of its greys."""
     if not isinstance(picture, Picture):
-        shape = _view(picture, "a picture that is no Picture").shape
+        shape = _view(picture, "a picture").shape
         if len(shape) != 2:
-            raise TypeError(f"a picture is a Picture or has rows and columns, not {len(shape)} dimensions")
+            raise TypeError(f"a picture of {len(shape)} dimensions needs its sides: Picture(width, height, 255, greys)")
         picture = Picture(shape[1], shape[0], 255, picture)
     width, height, maximum, raster = picture
     head = _word(width, "a width"), _word(height, "a height"), _word(maximum, "a maximum")
@@ -218,6 +218,7 @@ def _like(raster, entries):
     return entries.tobytes() if entries.typecode == "B" else entries
 
 
+_CHECKOUT = os.path.join(os.path.dirname(os.path.abspath(__file__)), os.pardir, "target", "libteldruf.so")
 _loaded = None
 
 
@@ -246,7 +247,7 @@ def load(path):
 def _call(name, *arguments):
     """The value of an accepted call."""
     if _loaded is None:
-        load(os.path.join(os.path.dirname(os.path.abspath(__file__)), os.pardir, "target", "libteldruf.so"))
+        load(_CHECKOUT)
     answer = getattr(_loaded, "teldruf_" + name)(*arguments)
     if answer >> 32:
         raise Refused(answer >> 32)
