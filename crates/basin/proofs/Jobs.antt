@@ -8,37 +8,57 @@ use lib.Dec.{ltb}
 use lib.ListN.{length}
 use borrow.Author.Tests.{ltb-false, lt-ltb, le-ltb}
 use Rattle.causes.specs.declared.Cause.{Cause}
+use Rattle.causes.proofs.Numbers.{number-determined}
 use Rattle.causes.specs.declared.Cause.the-variants.{TooLarge, NotRead}
 use Rattle.pgm.specs.Read.{read-answer, raster-of}
 use Rattle.pgm.specs.declared.Found.{Found}
 use Rattle.pgm.specs.declared.Found.the-variants.{Picture, Refused as Not-found}
 use Rattle.pgm.proofs.Shape.{accepted-page}
-use Rattle.steps.specs.Answer.{parse-answer, steps-after}
+use Rattle.steps.specs.Answer.{parse-answer, parsed-numbers, steps-after}
+use Rattle.steps.proofs.Laws.{parsed-determined}
 use Rattle.steps.specs.declared.Parsed.{Parsed}
 use Rattle.steps.specs.declared.Parsed.the-variants.{Steps, Refused as Not-parsed}
 use Rattle.basin.specs.declared.files.Loaded.{Loaded}
 use Rattle.basin.specs.declared.files.Loaded.the-variants.{Bytes, Failed}
+use Rattle.basin.specs.declared.judging.Lengths.{Lengths}
 use Rattle.basin.specs.declared.judging.Lengths.the-variants.{Both, Refused as Not-both}
 use Rattle.basin.specs.declared.judging.Job.{Job}
 use Rattle.basin.specs.declared.judging.Job.the-variants.{Size, Refused}
-use Rattle.basin.specs.Judging.{both-read, sized-by, judged-with, job-of, job-steps}
+use Rattle.basin.specs.Judging.{both-read, lengths-numbers, sized-by, judged-with, job-of, job-numbers, job-steps}
+
+-- an answer's numbers determine it
+lengths-determined : (r s : Lengths) → lengths-numbers r ≡ lengths-numbers s → r ≡ s
+lengths-determined (Both p q) (Both k l) e = cc
+lengths-determined (Both p q) (Not-both d) e = absurd (omega (arith, ap length e))
+lengths-determined (Not-both c) (Both k l) e = absurd (omega (arith, ap length e))
+lengths-determined (Not-both c) (Not-both d) e = ap Not-both (number-determined c d (cc e))
+
+job-determined : (r s : Job) → job-numbers r ≡ job-numbers s → r ≡ s
+job-determined (Size w h a k) (Size u v b l) e = cc
+job-determined (Size w h a k) (Refused d) e = absurd (omega (arith, ap length e))
+job-determined (Refused c) (Size u v b l) e = absurd (omega (arith, ap length e))
+job-determined (Refused c) (Refused d) e = ap Refused (number-determined c d (cc e))
+
+-- what a call of the parser that answered p says of the file
+pub parsed-as : (file : List ℕ) (r p : Parsed) → parsed-numbers r ≡ parsed-numbers (parse-answer file) → r ≡ p → parse-answer file ≡ p
+parsed-as file r p e is = sym (parsed-determined r (parse-answer file) e) ∙ is
 
 -- two files
-pub first-failed : (a b : Loaded) → a ≡ Failed → Not-both NotRead ≡ both-read a b
+pub first-failed : (a b : Loaded) → a ≡ Failed → lengths-numbers (Not-both NotRead) ≡ lengths-numbers (both-read a b)
 first-failed a b e = rw e refl
 
 module _ (a b : Loaded) (p : ℕ) (is : a ≡ Bytes p) where
-  pub second-failed : b ≡ Failed → Not-both NotRead ≡ both-read a b
+  pub second-failed : b ≡ Failed → lengths-numbers (Not-both NotRead) ≡ lengths-numbers (both-read a b)
   second-failed e = rw (is, e) refl
 
   module _ (s : ℕ) (list-is : b ≡ Bytes s) where
-    pub first-long : 4096 < p → Not-both TooLarge ≡ both-read a b
+    pub first-long : 4096 < p → lengths-numbers (Not-both TooLarge) ≡ lengths-numbers (both-read a b)
     first-long l = rw (is, list-is, lt-ltb 4096 p l) refl
 
-    pub second-long : p ≤ 4096 → 4096 < s → Not-both TooLarge ≡ both-read a b
+    pub second-long : p ≤ 4096 → 4096 < s → lengths-numbers (Not-both TooLarge) ≡ lengths-numbers (both-read a b)
     second-long k l = rw (is, list-is, le-ltb 4096 p k, lt-ltb 4096 s l) refl
 
-    pub both-fit : p ≤ 4096 → s ≤ 4096 → Both p s ≡ both-read a b
+    pub both-fit : p ≤ 4096 → s ≤ 4096 → lengths-numbers (Both p s) ≡ lengths-numbers (both-read a b)
     both-fit k l = rw (is, list-is, le-ltb 4096 p k, le-ltb 4096 s l) refl
 
 -- the steps file
@@ -50,7 +70,7 @@ by-cause w h cause parsed e = rw e refl
 
 -- what is answered, and what the thresholds then are
 abbrev pub Judged : List ℕ → List ℕ → List ℕ → Job → List ℕ → Type 0
-Judged file list lent answer after = (answer ≡ job-of file list) × (after ≡ job-steps file list lent)
+Judged file list lent answer after = (job-numbers answer ≡ job-numbers (job-of file list)) × (after ≡ job-steps file list lent)
 
 pub unread : (file list lent : List ℕ) (cause : Cause) → read-answer file ≡ Not-found cause → Judged file list lent (Refused cause) lent
 unfolding job-of job-steps
@@ -66,7 +86,7 @@ module _ (file list lent : List ℕ) (w h maximum start : ℕ) (is : read-answer
 
   pub small-enough : length (raster-of file) ≤ 2048 → (answer : Job) (after : List ℕ) → answer ≡ sized-by w h (parse-answer list) → after ≡ steps-after list lent → Judged file list lent answer after
   unfolding job-of job-steps
-  small-enough l answer after e f = rw (is, le-ltb 2048 (w * h) (omega (arith, pixels))) (e, f)
+  small-enough l answer after e f = rw (is, le-ltb 2048 (w * h) (omega (arith, pixels))) (ap job-numbers e, f)
 
 -- what is to be sized: a picture of at most 2,048 pixels, by a steps file that is accepted
 pub record Sizing (file list lent : List ℕ) (attribute count : ℕ) : Type 0 where
@@ -94,17 +114,21 @@ module _ (file list lent : List ℕ) (width height attribute count : ℕ) where
             stored = rw (is, l) refl;
           }
 
-  pub sizing : job-of file list ≡ Size width height attribute count → Sizing file list lent attribute count
+  pub sizing : (r : Job) → job-numbers r ≡ job-numbers (job-of file list) → r ≡ Size width height attribute count → Sizing file list lent attribute count
   unfolding job-of
-  sizing e = within (read-answer file) refl e
+  sizing r e is = within (read-answer file) refl (sym (job-determined r (job-of file list) e) ∙ is)
 
 -- the lengths that are handed on are those of files that were read
-pub both-loaded : (a b : Loaded) (p s : ℕ) → both-read a b ≡ Both p s → (a ≡ Bytes p) × (b ≡ Bytes s)
-both-loaded Failed b p s e = let z : _≡_ {A = ℕ} 0 1 = cc in absurd (omega arith)
-both-loaded (Bytes q) Failed p s e = let z : _≡_ {A = ℕ} 0 1 = cc in absurd (omega arith)
-both-loaded (Bytes q) (Bytes r) p s e = go (ltb 4096 q) (ltb 4096 r) e
+both-of : (a b : Loaded) (p s : ℕ) → both-read a b ≡ Both p s → (a ≡ Bytes p) × (b ≡ Bytes s)
+both-of Failed b p s e = let z : _≡_ {A = ℕ} 0 1 = cc in absurd (omega arith)
+both-of (Bytes q) Failed p s e = let z : _≡_ {A = ℕ} 0 1 = cc in absurd (omega arith)
+both-of (Bytes q) (Bytes r) p s e = go (ltb 4096 q) (ltb 4096 r) e
   where
     go : (t u : Bool) → cond t (Not-both TooLarge) (cond u (Not-both TooLarge) (Both q r)) ≡ Both p s → (Bytes q ≡ Bytes p) × (Bytes r ≡ Bytes s)
     go true u f = let z : _≡_ {A = ℕ} 0 1 = cc in absurd (omega arith)
     go false true f = let z : _≡_ {A = ℕ} 0 1 = cc in absurd (omega arith)
     go false false f = let g : q ≡ p = cc in let h : r ≡ s = cc in (ap Bytes g, ap Bytes h)
+
+pub both-loaded : (a b : Loaded) (p s : ℕ) (r : Lengths) → lengths-numbers r ≡ lengths-numbers (both-read a b) → r ≡ Both p s
+    → (a ≡ Bytes p) × (b ≡ Bytes s)
+both-loaded a b p s r e is = both-of a b p s (sym (lengths-determined r (both-read a b) e) ∙ is)

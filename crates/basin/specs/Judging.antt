@@ -1,8 +1,9 @@
 -- What the program does with its two files, in its order: "Program: 15, 14 (bytes), the reader's, 14 (n), 13, 3, 4."
 use Prim.Native.Nat.{ℕ, _*_}
 use mathlib.Core.Bool.{cond}
-use mathlib.Core.List.{List}
+use mathlib.Core.List.{List, [], _∷_}
 use lib.Dec.{ltb}
+use Rattle.causes.specs.Causes.{number-of}
 use Rattle.causes.specs.declared.Cause.the-variants.{TooLarge, NotRead}
 use Rattle.pgm.specs.Read.{read-answer}
 use Rattle.pgm.specs.declared.Found.{Found}
@@ -22,6 +23,16 @@ abbrev pub both-read : Loaded → Loaded → Lengths
 both-read Failed list = Not-both NotRead
 both-read (Bytes p) Failed = Not-both NotRead
 both-read (Bytes p) (Bytes s) = cond (ltb 4096 p) (Not-both TooLarge) (cond (ltb 4096 s) (Not-both TooLarge) (Both p s))
+
+-- "this paper's number and values for each enum case": 0 and how many bytes each file has, or the number of the cause
+abbrev pub lengths-numbers : Lengths → List ℕ
+lengths-numbers (Both p s) = 0 ∷ p ∷ s ∷ []
+lengths-numbers (Not-both cause) = number-of cause ∷ []
+
+-- 0, the sides, the attribute and how many steps, or the number of the cause
+abbrev pub job-numbers : Job → List ℕ
+job-numbers (Size w h attribute count) = 0 ∷ w ∷ h ∷ attribute ∷ count ∷ []
+job-numbers (Refused cause) = number-of cause ∷ []
 
 -- a picture of width w and height h, by the answer on the steps file
 abbrev pub sized-by : ℕ → ℕ → Parsed → Job

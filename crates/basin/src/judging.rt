@@ -1,7 +1,7 @@
 // What the program does with its two files: its causes for refusal, in its order. Nothing is printed here.
 ghost use mathlib.Core.Path.{_≡_};
 ghost use Rattle.steps.specs.Answer.{parse-answer, steps-after};
-ghost use Rattle.basin.specs.Judging.{both-read, sized-by, job-of, job-steps};
+ghost use Rattle.basin.specs.Judging.{both-read, lengths-numbers, sized-by, job-of, job-numbers, job-steps};
 use crate::files::Loaded;
 use causes::Cause;
 
@@ -24,7 +24,7 @@ pub enum Job {
 
 // A file that was not opened or read is judged first, then one that is too long.
 pub fn both(picture: Loaded, list: Loaded) -> Lengths
-    ensures { λ r. ⌜ r ≡ both-read picture list ⌝ }
+    ensures answer { λ r. ⌜ lengths-numbers r ≡ lengths-numbers (both-read picture list) ⌝ }
 {
     let Loaded::Bytes(p) = picture else {
         return Lengths::Refused(Cause::NotRead);
@@ -66,8 +66,8 @@ fn by_steps(width: u32, height: u32, list: &[u8], thresholds: &mut [u32; 256]) -
 
 // The picture's file, its size, then the steps file.
 pub fn judge(file: &[u8], list: &[u8], thresholds: &mut [u32; 256]) -> Job
-    ensures { λ r. ⌜ r ≡ job-of (now (file .entry)) (now (list .entry)) ⌝ }
-    ensures { λ _. ⌜ now (thresholds .exit) ≡ job-steps (now (file .entry)) (now (list .entry)) (now (thresholds .entry)) ⌝ }
+    ensures answer { λ r. ⌜ job-numbers r ≡ job-numbers (job-of (now (file .entry)) (now (list .entry))) ⌝ }
+    ensures thresholds { λ _. ⌜ now (thresholds .exit) ≡ job-steps (now (file .entry)) (now (list .entry)) (now (thresholds .entry)) ⌝ }
 {
     match pgm::read(file) {
         pgm::Found::Picture {

@@ -1,7 +1,8 @@
--- Different causes have different numbers: a number gives its cause back. Assumes nothing.
-use Prim.Native.Nat.{ℕ, _-_}
+-- Different causes have different numbers, from 1 on: a number gives its cause back. Assumes nothing.
+use Prim.Native.Nat.{ℕ, _-_, _<_}
 use mathlib.Core.Path.{_≡_, refl, sym, ap, _∙_}
 use mathlib.Core.List.{List, [], _∷_}
+use native.Mathlib.Omega.{arith}
 use lib.ListN.{getD}
 use Rattle.causes.specs.Causes.{number-of}
 use Rattle.causes.specs.declared.Cause.{Cause}
@@ -34,3 +35,21 @@ cause-back NotRead = refl
 
 pub number-determined : (c d : Cause) → number-of c ≡ number-of d → c ≡ d
 number-determined c d e = sym (cause-back c) ∙ ap cause-of e ∙ cause-back d
+
+-- no cause has the number 0, which an answer without a cause has
+pub number-positive : (c : Cause) → 0 < number-of c
+number-positive Sides = omega arith
+number-positive PictureLength = omega arith
+number-positive Attribute = omega arith
+number-positive Steps = omega arith
+number-positive Workspace = omega arith
+number-positive Output = omega arith
+number-positive Buffer = omega arith
+number-positive Sign = omega arith
+number-positive Header = omega arith
+number-positive Maximum = omega arith
+number-positive RasterLength = omega arith
+number-positive Sample = omega arith
+number-positive StepsFile = omega arith
+number-positive TooLarge = omega arith
+number-positive NotRead = omega arith

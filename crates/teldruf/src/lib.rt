@@ -1,16 +1,18 @@
 // The C interface. Each function hands lent memory on to the call that it is named for, and answers 64 bits: the value where the call is
 // accepted, 0 for "done", else the cause's number times 2^32. include/teldruf.h declares them.
 ghost use mathlib.Core.Path.{_≡_};
+ghost use mathlib.Core.List.{[], _∷_};
 ghost use lib.ListN.{length};
-ghost use Rattle.pgm.specs.Read.{read-answer};
-ghost use Rattle.pgm.specs.Write.{write-answer, buffer-after};
-ghost use Rattle.calls.specs.Judging.{build-verdict};
-ghost use Rattle.calls.specs.Calls.{built, call-workspace, opening-judged, opening-output, map-judged, map-residues, map-indices};
-ghost use Rattle.teldruf.specs.Codes.{refused-code, found-code, head-with, written-code, built-code, verdict-code};
+ghost use Rattle.causes.specs.Causes.{number-of};
+ghost use Rattle.pgm.specs.Read.{read-answer, found-numbers};
+ghost use Rattle.pgm.specs.Write.{write-answer, written-numbers, buffer-after};
+ghost use Rattle.calls.specs.Judging.{build-verdict, verdict-numbers};
+ghost use Rattle.calls.specs.Calls.{built, built-numbers, call-workspace, opening-judged, opening-output, map-judged, map-residues, map-indices};
+ghost use Rattle.teldruf.specs.Codes.{code-of, number-code, head-with};
 use causes::Cause;
 
 fn refused(cause: Cause) -> u64
-    ensures { λ r. ⌜ r ≡ refused-code cause ⌝ }
+    ensures { λ r. ⌜ r ≡ code-of (number-of cause ∷ []) ⌝ }
 {
     causes::number(cause) as u64 * 4294967296
 }
@@ -18,7 +20,8 @@ fn refused(cause: Cause) -> u64
 // Reads a PGM file: the four words of the head are its width, height, maximum and where the raster starts.
 #[no_mangle]
 pub extern "C" fn teldruf_read_pgm(file: &[u8], head: &mut [u32; 4]) -> u64
-    ensures { λ r. ⌜ (r ≡ found-code (read-answer (now (file .entry)))) × (now (head .exit) ≡ head-with (read-answer (now (file .entry))) (now (head .entry))) ⌝ }
+    ensures answer { λ r. ⌜ r ≡ number-code (found-numbers (read-answer (now (file .entry)))) ⌝ }
+    ensures head { λ _. ⌜ now (head .exit) ≡ head-with (read-answer (now (file .entry))) (now (head .entry)) ⌝ }
 {
     match pgm::read(file) {
         pgm::Found::Picture {
@@ -46,7 +49,8 @@ pub extern "C" fn teldruf_write_pgm(
     maximum: u32,
     buffer: &mut [u8],
 ) -> u64
-    ensures { λ r. ⌜ (r ≡ written-code (write-answer (now (picture .entry)) width height maximum (length (now (buffer .entry))))) × (now (buffer .exit) ≡ buffer-after (now (picture .entry)) width height maximum (now (buffer .entry))) ⌝ }
+    ensures answer { λ r. ⌜ r ≡ code-of (written-numbers (write-answer (now (picture .entry)) width height maximum (length (now (buffer .entry))))) ⌝ }
+    ensures buffer { λ _. ⌜ now (buffer .exit) ≡ buffer-after (now (picture .entry)) width height maximum (now (buffer .entry)) ⌝ }
 {
     match pgm::write(picture, width, height, maximum, buffer) {
         pgm::Written::Bytes(total) => total as u64,
@@ -63,8 +67,8 @@ pub extern "C" fn teldruf_build(
     attribute: u32,
     workspace: &mut [u32],
 ) -> u64
-    ensures { λ r. ⌜ r ≡ built-code (built width height attribute (now (picture .entry)) (now (workspace .entry))) ⌝ }
-    ensures { λ _. ⌜ now (workspace .exit) ≡ call-workspace (build-verdict width height attribute (length (now (picture .entry))) (length (now (workspace .entry)))) width height attribute (now (picture .entry)) (now (workspace .entry)) ⌝ }
+    ensures answer { λ r. ⌜ r ≡ code-of (built-numbers (built width height attribute (now (picture .entry)) (now (workspace .entry)))) ⌝ }
+    ensures workspace { λ _. ⌜ now (workspace .exit) ≡ call-workspace (build-verdict width height attribute (length (now (picture .entry))) (length (now (workspace .entry)))) width height attribute (now (picture .entry)) (now (workspace .entry)) ⌝ }
 {
     match max_tree::build(picture, width, height, attribute, workspace) {
         calls::Built::Nodes(total) => total as u64,
@@ -83,9 +87,9 @@ pub extern "C" fn teldruf_open(
     workspace: &mut [u32],
     output: &mut [u8],
 ) -> u64
-    ensures { λ r. ⌜ r ≡ verdict-code (opening-judged width height attribute threshold (now (picture .entry)) (now (workspace .entry)) (now (output .entry))) ⌝ }
-    ensures { λ _. ⌜ now (workspace .exit) ≡ call-workspace (opening-judged width height attribute threshold (now (picture .entry)) (now (workspace .entry)) (now (output .entry))) width height attribute (now (picture .entry)) (now (workspace .entry)) ⌝ }
-    ensures { λ _. ⌜ now (output .exit) ≡ opening-output width height attribute threshold (now (picture .entry)) (now (workspace .entry)) (now (output .entry)) ⌝ }
+    ensures answer { λ r. ⌜ r ≡ code-of (verdict-numbers (opening-judged width height attribute threshold (now (picture .entry)) (now (workspace .entry)) (now (output .entry)))) ⌝ }
+    ensures workspace { λ _. ⌜ now (workspace .exit) ≡ call-workspace (opening-judged width height attribute threshold (now (picture .entry)) (now (workspace .entry)) (now (output .entry))) width height attribute (now (picture .entry)) (now (workspace .entry)) ⌝ }
+    ensures output { λ _. ⌜ now (output .exit) ≡ opening-output width height attribute threshold (now (picture .entry)) (now (workspace .entry)) (now (output .entry)) ⌝ }
 {
     match openings::open(
         picture,
@@ -113,10 +117,10 @@ pub extern "C" fn teldruf_map(
     residue: &mut [u8],
     index: &mut [u16],
 ) -> u64
-    ensures { λ r. ⌜ r ≡ verdict-code (map-judged width height attribute (now (steps .entry)) (now (picture .entry)) (now (workspace .entry)) (now (residue .entry)) (now (index .entry))) ⌝ }
-    ensures { λ _. ⌜ now (workspace .exit) ≡ call-workspace (map-judged width height attribute (now (steps .entry)) (now (picture .entry)) (now (workspace .entry)) (now (residue .entry)) (now (index .entry))) width height attribute (now (picture .entry)) (now (workspace .entry)) ⌝ }
-    ensures { λ _. ⌜ now (residue .exit) ≡ map-residues width height attribute (now (steps .entry)) (now (picture .entry)) (now (workspace .entry)) (now (residue .entry)) (now (index .entry)) ⌝ }
-    ensures { λ _. ⌜ now (index .exit) ≡ map-indices width height attribute (now (steps .entry)) (now (picture .entry)) (now (workspace .entry)) (now (residue .entry)) (now (index .entry)) ⌝ }
+    ensures answer { λ r. ⌜ r ≡ code-of (verdict-numbers (map-judged width height attribute (now (steps .entry)) (now (picture .entry)) (now (workspace .entry)) (now (residue .entry)) (now (index .entry)))) ⌝ }
+    ensures workspace { λ _. ⌜ now (workspace .exit) ≡ call-workspace (map-judged width height attribute (now (steps .entry)) (now (picture .entry)) (now (workspace .entry)) (now (residue .entry)) (now (index .entry))) width height attribute (now (picture .entry)) (now (workspace .entry)) ⌝ }
+    ensures residue { λ _. ⌜ now (residue .exit) ≡ map-residues width height attribute (now (steps .entry)) (now (picture .entry)) (now (workspace .entry)) (now (residue .entry)) (now (index .entry)) ⌝ }
+    ensures index { λ _. ⌜ now (index .exit) ≡ map-indices width height attribute (now (steps .entry)) (now (picture .entry)) (now (workspace .entry)) (now (residue .entry)) (now (index .entry)) ⌝ }
 {
     match residues::map(
         picture,

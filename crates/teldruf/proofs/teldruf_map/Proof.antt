@@ -1,6 +1,7 @@
 -- `teldruf::teldruf_map` meets its contract, by what `residues::map` answers and writes. Assumes nothing.
 use mathlib.Core.Path.{_∙_, sym, ap}
-use Rattle.teldruf.specs.Codes.{verdict-code}
+use Rattle.teldruf.specs.Codes.{code-of}
+use Rattle.calls.specs.Judging.{verdict-numbers}
 use borrow.Author.Needs.{needs}
 use Rattle.teldruf.proofs.teldruf_map.Statement.{statement}
 use Rattle.teldruf.proofs.teldruf_map.Tie as tie
@@ -28,7 +29,7 @@ same-length-3 c = search needs
 
 returns : tie.Need-returns
 returns c =
-    (ap verdict-code (sym (c .enum-told .given .1) ∙ c .before .before .before .before .before .before .before .before .map .ensures .0), (c .before .before .before .before .before .before .before .before .map .ensures .1 .1 .0, (c .before .before .before .before .before .before .before .before .map .ensures .1 .1 .1 .0, c .before .before .before .before .before .before .before .before .map .ensures .1 .1 .1 .1)))
+    (ap code-of (ap verdict-numbers (sym (c .enum-told .given .1)) ∙ c .before .before .before .before .before .before .before .before .map .ensures .0), (c .before .before .before .before .before .before .before .before .map .ensures .1 .0, (c .before .before .before .before .before .before .before .before .map .ensures .1 .1 .0, c .before .before .before .before .before .before .before .before .map .ensures .1 .1 .1)))
 
 same-length-4 : tie.Need-same-length-4
 same-length-4 c = search needs
@@ -41,7 +42,7 @@ same-length-6 c = search needs
 
 returns-2 : tie.Need-returns-2
 returns-2 c =
-    (c .refused .ensures ∙ ap verdict-code (sym (c .before .before .cause .given .1) ∙ c .before .before .before .before .before .before .before .before .before .before .map .ensures .0), (c .before .before .before .before .before .before .before .before .before .before .map .ensures .1 .1 .0, (c .before .before .before .before .before .before .before .before .before .before .map .ensures .1 .1 .1 .0, c .before .before .before .before .before .before .before .before .before .before .map .ensures .1 .1 .1 .1)))
+    (c .refused .ensures ∙ ap code-of (ap verdict-numbers (sym (c .before .before .cause .given .1)) ∙ c .before .before .before .before .before .before .before .before .before .before .map .ensures .0), (c .before .before .before .before .before .before .before .before .before .before .map .ensures .1 .0, (c .before .before .before .before .before .before .before .before .before .before .map .ensures .1 .1 .0, c .before .before .before .before .before .before .before .before .before .before .map .ensures .1 .1 .1)))
 
 pub teldruf-map-spec : {M : Type 1} → statement M
 teldruf-map-spec =

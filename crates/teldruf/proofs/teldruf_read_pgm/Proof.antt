@@ -2,7 +2,9 @@
 use mathlib.Core.Path.{_∙_, sym, ap}
 use denote.Ref.{now}
 use Rattle.pgm.specs.declared.Found.{Found}
-use Rattle.teldruf.specs.Codes.{found-code, head-with}
+use Rattle.pgm.specs.Read.{found-numbers}
+use Rattle.pgm.proofs.Answers.{read-as}
+use Rattle.teldruf.specs.Codes.{number-code, head-with}
 use borrow.Author.Needs.{needs}
 use Rattle.teldruf.proofs.teldruf_read_pgm.Statement.{statement}
 use Rattle.teldruf.proofs.teldruf_read_pgm.Tie as tie
@@ -36,12 +38,13 @@ refused-requires c κs = search needs
 
 returns : tie.Need-returns
 returns c =
-    let e = sym (c .before .width .given .1) ∙ c .before .before .before .read .ensures .0 in (ap found-code e, ap (λ (f : Found). head-with f (now (c .before .before .before .before .before .args .head))) e)
+    let e = sym (read-as _ _ _ (c .before .before .before .read .ensures) (c .before .width .given .1)) in
+    (ap (λ (f : Found). number-code (found-numbers f)) e, ap (λ (f : Found). head-with f (now (c .before .before .before .before .before .args .head))) e)
 
 returns-2 : tie.Need-returns-2
 returns-2 c =
-    let e = sym (c .before .before .cause .given .1) ∙ c .before .before .before .before .read .ensures .0 in
-    (c .refused .ensures ∙ ap found-code e, ap (λ (f : Found). head-with f (now (c .before .before .before .before .before .before .args .head))) e)
+    let e = sym (read-as _ _ _ (c .before .before .before .before .read .ensures) (c .before .before .cause .given .1)) in
+    (c .refused .ensures ∙ ap (λ (f : Found). number-code (found-numbers f)) e, ap (λ (f : Found). head-with f (now (c .before .before .before .before .before .before .args .head))) e)
 
 pub teldruf-read-pgm-spec : {M : Type 1} → statement M
 teldruf-read-pgm-spec =

@@ -1,6 +1,5 @@
 -- `basin::judging::by_steps` meets its contract. Assumes nothing.
-use mathlib.Core.Path.{sym, _∙_}
-use Rattle.basin.proofs.Jobs.{by-list, by-cause}
+use Rattle.basin.proofs.Jobs.{parsed-as, by-list, by-cause}
 use borrow.Author.Needs.{needs}
 use Rattle.basin.proofs.judging.by_steps.Statement.{statement}
 use Rattle.basin.proofs.judging.by_steps.Tie as tie
@@ -12,13 +11,13 @@ enum-known-attribute : tie.Need-enum-known-attribute
 enum-known-attribute c = search needs
 
 returns : tie.Need-returns
-returns c = (by-list _ _ _ _ _ (sym (c .before .before .before .parse .ensures .0 .0) ∙ c .before .attribute .given .1), c .before .before .before .parse .ensures .0 .1)
+returns c = (by-list _ _ _ _ _ (parsed-as _ _ _ (c .before .before .before .parse .ensures .0) (c .before .attribute .given .1)), c .before .before .before .parse .ensures .1)
 
 enum-known-cause : tie.Need-enum-known-cause
 enum-known-cause c = search needs
 
 returns-2 : tie.Need-returns-2
-returns-2 c = (by-cause _ _ _ _ (sym (c .before .before .before .parse .ensures .0 .0) ∙ c .before .cause .given .1), c .before .before .before .parse .ensures .0 .1)
+returns-2 c = (by-cause _ _ _ _ (parsed-as _ _ _ (c .before .before .before .parse .ensures .0) (c .before .cause .given .1)), c .before .before .before .parse .ensures .1)
 
 pub by-steps-spec : {M : Type 1} → statement M
 by-steps-spec =

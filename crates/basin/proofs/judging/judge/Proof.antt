@@ -1,5 +1,6 @@
 -- `basin::judging::judge` meets its contract. Assumes nothing.
-use mathlib.Core.Path.{sym, _∙_}
+use mathlib.Core.Path.{sym}
+use Rattle.pgm.proofs.Answers.{read-as}
 use Rattle.basin.proofs.Jobs.{unread, too-large, small-enough}
 use borrow.Author.Needs.{needs}
 use Rattle.basin.proofs.judging.judge.Statement.{statement}
@@ -15,20 +16,20 @@ raster-requires : tie.Need-raster-requires
 raster-requires c κs = search needs
 
 returns : tie.Need-returns
-returns c = too-large _ _ _ _ _ _ _ (sym (c .before .before .before .before .before .read .ensures .0) ∙ c .before .before .before .width .given .1) (rw (sym (c .before .raster .ensures)) (c .if1 .taken))
+returns c = too-large _ _ _ _ _ _ _ (read-as _ _ _ (c .before .before .before .before .before .read .ensures) (c .before .before .before .width .given .1)) (rw (sym (c .before .raster .ensures)) (c .if1 .taken))
 
 by-steps-requires : tie.Need-by-steps-requires
 by-steps-requires c κs = search needs
 
 returns-2 : tie.Need-returns-2
 returns-2 c =
-    small-enough _ _ _ _ _ _ _ (sym (c .before .before .before .before .before .before .before .read .ensures .0) ∙ c .before .before .before .before .before .width .given .1) (rw (sym (c .before .before .before .raster .ensures)) (c .before .before .if1 .left)) _ _ (c .by-steps .ensures .0) (c .by-steps .ensures .1)
+    small-enough _ _ _ _ _ _ _ (read-as _ _ _ (c .before .before .before .before .before .before .before .read .ensures) (c .before .before .before .before .before .width .given .1)) (rw (sym (c .before .before .before .raster .ensures)) (c .before .before .if1 .left)) _ _ (c .by-steps .ensures .0) (c .by-steps .ensures .1)
 
 enum-known-cause : tie.Need-enum-known-cause
 enum-known-cause c = search needs
 
 returns-3 : tie.Need-returns-3
-returns-3 c = unread _ _ _ _ (sym (c .before .before .before .read .ensures .0) ∙ c .before .cause .given .1)
+returns-3 c = unread _ _ _ _ (read-as _ _ _ (c .before .before .before .read .ensures) (c .before .cause .given .1))
 
 pub judge-spec : {M : Type 1} → statement M
 judge-spec =
