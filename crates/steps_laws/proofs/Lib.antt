@@ -1,2 +1,3 @@
 pub mod Digits
 pub mod Spelling
+pub mod Exact

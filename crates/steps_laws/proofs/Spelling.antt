@@ -1,23 +1,24 @@
--- The file that spells an attribute and a step list is accepted, and gives them back.
-use Prim.Native.Nat.{ℕ, zero, suc, _+_, _-_, _≤_, _<_}
-use mathlib.Core.Path.{_≡_, refl, ap}
-use mathlib.Core.Bool.{Bool, true, not, _&&_}
+-- The file that spells an attribute and a step list is accepted, and gives them.
+use Prim.Native.Nat.{ℕ, suc, _-_, _≤_, _<_}
+use mathlib.Core.Path.{_≡_, refl, ap, _∙_}
+use mathlib.Core.Bool.{Bool, true, not, _&&_, _||_, false≢true}
 use mathlib.Core.List.{List, [], _∷_, _++_}
+use mathlib.Core.Logic.{_⊎_, inl, inr}
 use native.Mathlib.Omega.{arith}
 use lib.Dec.{eqb, leb}
 use lib.ListN.{length}
-use borrow.Author.Tests.{leb-true, ne-eqb, not-true}
+use borrow.Author.Tests.{leb-true, eqb-true, ne-eqb, not-true}
+use Rattle.sets.proofs.Tests.{or-cases}
 use Rattle.causes.proofs.Laws.{both-true}
 use Rattle.pgm.specs.Write.{decimal}
 use Rattle.steps.specs.Fields.{all-between, field, starts-with, attribute-of}
 use Rattle.steps.specs.Lines.{ends-line, longer, lines, attribute-head, step-head, attribute-line, step-line, step-lines, shaped, well-formed, threshold, thresholds}
-use Rattle.calls.specs.Judging.{threshold-good, all-good, steps-good}
+use Rattle.calls.specs.Judging.{attribute-good, threshold-good, all-good, steps-good}
 use Rattle.opening.specs.Residue.{rising}
 use Rattle.steps.specs.Answer.{attribute-in, steps-in, parse-answer}
-use Rattle.steps.specs.declared.Parsed.the-variants.{Steps}
-use Rattle.steps_laws.specs.Spelled.{name-of, spelled-steps, spelled-file}
+use Rattle.steps_laws.specs.Spelled.{name-of, spelled-steps, spelled-file, Gives}
 use Rattle.steps.proofs.Splitting.{ended-some}
-use Rattle.steps_laws.proofs.Digits.{spells-decimal, decimal-number}
+use Rattle.steps_laws.proofs.Digits.{decimal-digits, decimal-back, decimal-number}
 
 -- no byte 10
 one-line : List ℕ → Bool
@@ -40,27 +41,34 @@ one-line-between low high (b ∷ s) h e =
     let n : b ≡ 10 → ⊥ = λ (ten : b ≡ 10). omega arith in
     rw (ne-eqb b 10 n) (one-line-between low high s h (p .1))
 
+-- each threshold of a step list is in range
+pub each-good : (steps : List ℕ) → steps-good steps ≡ true → all-good steps ≡ true
+unfolding steps-good
+each-good steps good =
+    let p = both-true (leb 1 (length steps) && leb (length steps) 256) (rising 0 steps && all-good steps) good in
+    both-true (rising 0 steps) (all-good steps) (p .1) .1
+
 -- the line that spells a step
 module _ (t : ℕ) (good : threshold-good t ≡ true) where
   some : 1 ≤ t
   unfolding threshold-good
   some = leb-true 1 t (both-true (leb 1 t) (leb t 1048577) good .0)
 
-  small : t < 10000000
+  pub threshold-fits : t < 10000000
   unfolding threshold-good
-  small = omega (arith, leb-true t 1048577 (both-true (leb 1 t) (leb t 1048577) good .1))
+  threshold-fits = omega (arith, leb-true t 1048577 (both-true (leb 1 t) (leb t 1048577) good .1))
 
   spelled-line : step-line (step-head ++ decimal 7 t) ≡ true
   unfolding step-line starts-with
-  spelled-line = decimal-number t some small
+  spelled-line = decimal-number t threshold-fits some
 
   spelled-threshold : threshold (step-head ++ decimal 7 t) ≡ t
   unfolding threshold
-  spelled-threshold = spells-decimal t small .value
+  spelled-threshold = decimal-back t threshold-fits
 
   spelled-one-line : one-line (step-head ++ decimal 7 t) ≡ true
   unfolding one-line
-  spelled-one-line = one-line-between 48 57 (decimal 7 t) (omega arith) (spells-decimal t small .digits)
+  spelled-one-line = one-line-between 48 57 (decimal 7 t) (omega arith) (decimal-digits t threshold-fits)
 
 -- the lines of a spelled list are step lines with its thresholds
 pub record Listed (steps : List ℕ) : Type 0 where
@@ -80,23 +88,23 @@ spelled-listed (t ∷ steps) e =
     }
 
 -- a file ends a line if its end does
-ends-cons : (b : ℕ) (s : List ℕ) → ends-line s ≡ true → ends-line (b ∷ s) ≡ true
+pub ends-cons : (b : ℕ) (s : List ℕ) → 0 < length s → ends-line (b ∷ s) ≡ ends-line s
 unfolding ends-line
-ends-cons b s e =
-    let more = ended-some s e in
+ends-cons b s some =
     let here : suc (length s) - 1 ≡ suc (length s - 1) = omega arith in
-    rw here e
+    rw here
 
 ends-append : (a s : List ℕ) → ends-line s ≡ true → ends-line (a ++ s) ≡ true
 ends-append [] s e = e
-ends-append (b ∷ a) s e = ends-cons b (a ++ s) (ends-append a s e)
+ends-append (b ∷ a) s e =
+    let later = ends-append a s e in
+    ends-cons b (a ++ s) (ended-some (a ++ s) later) ∙ later
 
 ends-spelled : (steps : List ℕ) → ends-line (10 ∷ spelled-steps steps) ≡ true
 unfolding spelled-steps ends-line
 ends-spelled [] = refl
 ends-spelled (t ∷ steps) =
-    ends-cons 10 ((step-head ++ decimal 7 t) ++ 10 ∷ spelled-steps steps)
-    (ends-append (step-head ++ decimal 7 t) (10 ∷ spelled-steps steps) (ends-spelled steps))
+    ends-append (10 ∷ (step-head ++ decimal 7 t)) (10 ∷ spelled-steps steps) (ends-spelled steps)
 
 -- the attribute line
 record Named (attribute : ℕ) : Type 0 where
@@ -104,27 +112,28 @@ record Named (attribute : ℕ) : Type 0 where
   unbroken : one-line (attribute-head ++ name-of attribute) ≡ true
   back : attribute-of (name-of attribute) ≡ attribute
 
-named : (attribute : ℕ) → 1 ≤ attribute → attribute ≤ 3 → Named attribute
-unfolding name-of attribute-line one-line attribute-of starts-with field all-between
-named (suc zero) lo hi = record { line = refl; unbroken = refl; back = refl }
-named (suc (suc zero)) lo hi = record { line = refl; unbroken = refl; back = refl }
-named (suc (suc (suc zero))) lo hi = record { line = refl; unbroken = refl; back = refl }
-named (suc (suc (suc (suc n)))) lo hi = absurd (omega arith)
-named zero lo hi = absurd (omega arith)
+named : (attribute : ℕ) → attribute-good attribute ≡ true → Named attribute
+unfolding attribute-good name-of attribute-line one-line attribute-of starts-with field all-between
+named attribute known = go (or-cases (eqb attribute 1 || eqb attribute 2) (eqb attribute 3) known)
+  where
+    one-or-two : (eqb attribute 1 ≡ true) ⊎ (eqb attribute 2 ≡ true) → Named attribute
+    one-or-two (inl e) = rw (eqb-true attribute 1 e) (record { line = refl; unbroken = refl; back = refl })
+    one-or-two (inr e) = rw (eqb-true attribute 2 e) (record { line = refl; unbroken = refl; back = refl })
 
-module _ (attribute : ℕ) (steps : List ℕ) (lo : 1 ≤ attribute) (hi : attribute ≤ 3) (good : steps-good steps ≡ true) where
+    go : (eqb attribute 1 || eqb attribute 2 ≡ true) ⊎ (eqb attribute 3 ≡ true) → Named attribute
+    go (inl e) = one-or-two (or-cases (eqb attribute 1) (eqb attribute 2) e)
+    go (inr e) = rw (eqb-true attribute 3 e) (record { line = refl; unbroken = refl; back = refl })
+
+module _ (attribute : ℕ) (steps : List ℕ) (known : attribute-good attribute ≡ true) (good : steps-good steps ≡ true) where
   name : Named attribute
-  name = named attribute lo hi
+  name = named attribute known
 
   split : lines (spelled-file attribute steps) ≡ (attribute-head ++ name-of attribute) ∷ lines (spelled-steps steps)
   unfolding spelled-file
   split = lines-split (attribute-head ++ name-of attribute) (spelled-steps steps) (name .unbroken)
 
   listed : Listed steps
-  unfolding steps-good
-  listed =
-      let p = both-true (leb 1 (length steps) && leb (length steps) 256) (rising 0 steps && all-good steps) good in
-      spelled-listed steps (both-true (rising 0 steps) (all-good steps) (p .1) .1)
+  listed = spelled-listed steps (each-good steps good)
 
   ended : ends-line (spelled-file attribute steps) ≡ true
   unfolding spelled-file
@@ -138,14 +147,15 @@ module _ (attribute : ℕ) (steps : List ℕ) (lo : 1 ≤ attribute) (hi : attri
   unfolding attribute-in
   attribute-back = rw split (name .back)
 
-  -- the thresholds are the list
-  pub spelled-back : steps-in (spelled-file attribute steps) ≡ steps
+  steps-back : steps-in (spelled-file attribute steps) ≡ steps
   unfolding steps-in
-  spelled-back = rw (split, listed .thresholds-are)
+  steps-back = rw (split, listed .thresholds-are)
 
-  -- the file is accepted, with the attribute and as many steps
-  pub spelled-accepted : parse-answer (spelled-file attribute steps) ≡ Steps attribute (length steps)
-  unfolding parse-answer
-  spelled-accepted =
-      let n : attribute ≡ 0 → ⊥ = λ (e : attribute ≡ 0). omega arith in
-      rw (spelled-shape, attribute-back, ne-eqb attribute 0 n, spelled-back, good)
+  pub spelled-gives : Gives (spelled-file attribute steps) attribute steps
+  unfolding parse-answer attribute-good
+  spelled-gives =
+      let n : attribute ≡ 0 → ⊥ = λ (e : attribute ≡ 0). false≢true (rw e at known) in
+      record {
+        answer = rw (spelled-shape, attribute-back, ne-eqb attribute 0 n, steps-back, good);
+        listed = steps-back;
+      }

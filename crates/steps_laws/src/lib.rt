@@ -1,1 +1,1 @@
-// Laws of steps files: every attribute and every step list has a file that spells it, and parsing that file gives them back.
+// Laws of steps files: a file is accepted exactly if it spells an attribute and a step list, byte for byte, and then it gives them.
