@@ -2,7 +2,7 @@
 use Prim.Native.Nat.{ℕ, _+_, _*_, _-_, _≤_, _<_}
 use mathlib.Core.Path.{_≡_, refl, sym, _∙_, ap}
 use mathlib.Core.Bool.{Bool, true, false}
-use mathlib.Core.List.{List, [], _++_}
+use mathlib.Core.List.{List, _++_}
 use native.Mathlib.Omega.{arith}
 use lib.Dec.{leb, eqb}
 use lib.ListN.{length, take, drop}
@@ -16,12 +16,13 @@ use Rattle.causes.proofs.Refusing.{must-passed}
 use Rattle.causes.proofs.Laws.{both-true, bounded, some-pixel}
 use Rattle.pgm.specs.Samples.{largest, all-at-most}
 use Rattle.pgm.specs.Header.{starts-with-sign, header-at}
-use Rattle.pgm.specs.Read.{maximum-fits, judged, read-answer, raster-of}
+use Rattle.pgm.specs.Read.{maximum-fits, judged, read-answer, raster-span, raster-part}
 use Rattle.pgm.specs.Write.{pgm-file, write-answer, buffer-after, Fields}
 use Rattle.pgm.specs.declared.header.Header.{Header}
 use Rattle.pgm.specs.declared.header.Header.the-variants.{Read, Broken}
 use Rattle.pgm.specs.declared.Found.{Found}
 use Rattle.pgm.specs.declared.Found.the-variants.{Picture, Refused}
+use Rattle.pgm.specs.declared.reader.Span.{Span}
 use Rattle.pgm.specs.declared.Written.{Written}
 use Rattle.pgm.specs.declared.Written.the-variants.{Bytes, Refused as NotWritten}
 use Rattle.pgm.proofs.Files.{file-first}
@@ -130,10 +131,9 @@ module _ (picture : List ℕ) (width height maximum room : ℕ) where
                 e,
               )
 
--- what an accepted file gives: the sign, the whole header, and what was judged of it
-pub record Accepted (file : List ℕ) (width height maximum start : ℕ) : Type 0 where
-  pub signed : starts-with-sign file ≡ true
-  pub header : header-at file 2 ≡ Read width height maximum start
+-- what a header gives that was judged to be a picture's: it is whole, and its values are right
+pub record Accepted (file : List ℕ) (found : Header) (width height maximum start : ℕ) : Type 0 where
+  pub header : found ≡ Read width height maximum start
   pub maximum-right : maximum-fits maximum ≡ true
   pub sides-right : sides-fit width height ≡ true
   pub length-right : length file - start ≡ width * height
@@ -144,10 +144,10 @@ passed : (t : Bool) (cause : Cause) (answer : Found) (width height maximum start
 passed t cause answer width height maximum start e =
     must-passed Refused t cause answer (Picture width height maximum start) (λ f. let z : _≡_ {A = ℕ} 0 1 = cc in omega arith) e
 
-judged-picture-is : (file : List ℕ) (h : Header) (width height maximum start : ℕ) → starts-with-sign file ≡ true → header-at file 2 ≡ h → judged file h ≡ Picture width height maximum start → Accepted file width height maximum start
+pub judged-accepted : (file : List ℕ) (found : Header) (width height maximum start : ℕ) → judged file found ≡ Picture width height maximum start → Accepted file found width height maximum start
 unfolding judged
-judged-picture-is file Broken width height maximum start s f g = let z : _≡_ {A = ℕ} 0 1 = cc in absurd (omega arith)
-judged-picture-is file (Read w h m st) width height maximum start s f g =
+judged-accepted file Broken width height maximum start g = let z : _≡_ {A = ℕ} 0 1 = cc in absurd (omega arith)
+judged-accepted file (Read w h m st) width height maximum start g =
     let a = passed (maximum-fits m) Maximum _ width height maximum start g in
     let b = passed (sides-fit w h) Sides _ width height maximum start (a .1) in
     let c = passed (eqb (length file - st) (w * h)) RasterLength _ width height maximum start (b .1) in
@@ -157,7 +157,6 @@ judged-picture-is file (Read w h m st) width height maximum start s f g =
     let em : m ≡ maximum = cc (d .1) in
     let es : st ≡ start = cc (d .1) in
     record {
-      signed = s;
       header = cc;
       maximum-right = rw em at (a .0);
       sides-right = rw (ew, eh) at (b .0);
@@ -165,23 +164,33 @@ judged-picture-is file (Read w h m st) width height maximum start s f g =
       samples-right = rw (em, es) at (d .0);
     }
 
-pub accepted : (file : List ℕ) (width height maximum start : ℕ) → read-answer file ≡ Picture width height maximum start → Accepted file width height maximum start
+-- an accepted file has the sign too
+pub accepted : (file : List ℕ) (width height maximum start : ℕ) → read-answer file ≡ Picture width height maximum start → (starts-with-sign file ≡ true) × Accepted file (header-at file 2) width height maximum start
 unfolding read-answer
 accepted file width height maximum start e =
     let s = passed (starts-with-sign file) Sign (judged file (header-at file 2)) width height maximum start e in
-    judged-picture-is file (header-at file 2) width height maximum start (s .0) refl (s .1)
+    (s .0, judged-accepted file (header-at file 2) width height maximum start (s .1))
 
-pub raster-refused : (file : List ℕ) (cause : Cause) → read-answer file ≡ Refused cause → [] ≡ raster-of file
-raster-refused file cause e = rw e
+pub picture-span : (width height maximum start n : ℕ) (found : Found) → n ≡ width * height → Picture width height maximum start ≡ found → _≡_ {A = Span} (record { start = start; length = n }) (raster-span found)
+picture-span width height maximum start n found pixels e = (λ i. record { start = start; length = pixels i }) ∙ ap raster-span e
 
-module _ (file : List ℕ) (width height maximum start n : ℕ) (e : read-answer file ≡ Picture width height maximum start) (pixels : n ≡ width * height) where
-  pub raster-within : start + n ≤ length file
-  raster-within =
-      let a = accepted file width height maximum start e in
-      omega (arith, a .length-right, some-pixel (bounded width height (a .sides-right)))
+-- the raster's span lies within the file, and its bytes are the raster
+within : (file : List ℕ) (header : Header) (found : Found) → judged file header ≡ found → raster-span found .start + raster-span found .length ≤ length file
+within file header (Picture width height maximum start) e =
+    let a = judged-accepted file header width height maximum start e in
+    omega (arith, a .length-right, some-pixel (bounded width height (a .sides-right)))
+within file header (Refused cause) e = omega arith
 
-  pub raster-accepted : take n (drop start file) ≡ raster-of file
-  raster-accepted = rw (e, pixels)
+spanned : (file : List ℕ) (found : Found) → take (raster-span found .length) (drop (raster-span found .start) file) ≡ raster-part file found
+spanned file (Picture width height maximum start) = refl
+spanned file (Refused cause) = refl
+
+module _ (file : List ℕ) (header : Header) (span : Span) (e : span ≡ raster-span (judged file header)) where
+  pub span-within : span .start + span .length ≤ length file
+  span-within = rw e (within file header (judged file header) refl)
+
+  pub span-raster : take (span .length) (drop (span .start) file) ≡ raster-part file (judged file header)
+  span-raster = rw e (spanned file (judged file header))
 
 -- what an accepted picture gives the writer
 pub record Writable (picture : List ℕ) (width height maximum room total : ℕ) : Type 0 where

@@ -9,3 +9,4 @@ pub mod Parts
 pub mod Shape
 pub mod RoundTrip
 pub mod Readers
+pub mod Opening

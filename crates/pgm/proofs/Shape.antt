@@ -83,7 +83,8 @@ regroup g₁ d₁ g₂ d₂ g₃ d₃ r = simp append-assoc
 module _ (file : List ℕ) (width height maximum start : ℕ) where
   pub accepted-page : read-answer file ≡ Picture width height maximum start → Page file width height maximum start (raster-of file)
   accepted-page e =
-      let a = accepted file width height maximum start e in
+      let s = accepted file width height maximum start e in
+      let a = s .1 in
       let some = some-pixel (bounded width height (a .sides-right)) in
       let h = header-read width height maximum start file 2 (a .header) in
       let w = part-stands file 2 width (h .height-from) (h .width-read) in
@@ -101,7 +102,7 @@ module _ (file : List ℕ) (width height maximum start : ℕ) where
         digits₃ = m .digits;
         last = getD file (h .end) 0;
         layout =
-            cc (after-sign file (a .signed), w .layout, v .layout, m .layout, l .1, all, h .start-read)
+            cc (after-sign file (s .0), w .layout, v .layout, m .layout, l .1, all, h .start-read)
             ∙ sym (regroup (w .gap) (w .digits) (v .gap) (v .digits) (m .gap) (m .digits) (getD file (h .end) 0 ∷ raster-of file));
         gap₁-right = w .gap-right;
         width-right = w .number-right;
@@ -118,15 +119,15 @@ module _ (file : List ℕ) (width height maximum start : ℕ) where
       }
 
 -- what passes every test is answered as a picture
-read-accepted : {file : List ℕ} {width height maximum start : ℕ} → Accepted file width height maximum start → read-answer file ≡ Picture width height maximum start
-read-accepted {file} {width} {height} {maximum} {start} a =
-    sym (read-signed file (a .signed))
+read-accepted : {file : List ℕ} {width height maximum start : ℕ} → starts-with-sign file ≡ true → Accepted file (header-at file 2) width height maximum start → read-answer file ≡ Picture width height maximum start
+read-accepted {file} {width} {height} {maximum} {start} s a =
+    sym (read-signed file s)
     ∙ ap (judged file) (a .header)
     ∙ sym (judged-picture file width height maximum start (a .maximum-right) (a .sides-right) (eq-eqb (length file - start) (width * height) (a .length-right)) (a .samples-right))
 
 -- and so what has the page's shape is accepted, with the values of the page
 module _ {file : List ℕ} {width height maximum start : ℕ} {raster : List ℕ} (p : Page file width height maximum start raster) where
-  page-passes : Accepted file width height maximum start × (drop start file ≡ raster)
+  page-passes : (starts-with-sign file ≡ true) × Accepted file (header-at file 2) width height maximum start × (drop start file ≡ raster)
   page-passes =
       let s₃ : List ℕ = p .last ∷ raster in
       let s₂ : List ℕ = p .gap₃ ++ (p .digits₃ ++ s₃) in
@@ -139,8 +140,8 @@ module _ {file : List ℕ} {width height maximum start : ℕ} {raster : List ℕ
       let place : m .after + 1 ≡ start = omega (arith, length-drop (m .after) file, ap length (m .stands), p .start-right) in
       let last : white-at file (m .after) ≡ true = white-stands file (m .after) (p .last) raster (m .stands) (p .last-white) in
       let follows : drop start file ≡ raster = ap (λ (i : ℕ). drop i file) (sym place) ∙ drop-past file (m .after) (p .last ∷ []) raster (m .stands) in (
+        ap starts-with-sign l ∙ sign-first s₀,
         record {
-          signed = ap starts-with-sign l ∙ sign-first s₀;
           header =
               sym (whole-header file 2 width (w .after) (w .read) height (h .after) (h .read) maximum (m .after) (m .read) last)
               ∙ ap (Read width height maximum) place;
@@ -153,7 +154,7 @@ module _ {file : List ℕ} {width height maximum start : ℕ} {raster : List ℕ
       )
 
   pub page-accepted : read-answer file ≡ Picture width height maximum start
-  page-accepted = read-accepted (page-passes .0)
+  page-accepted = read-accepted (page-passes .0) (page-passes .1)
 
   pub page-raster : raster-of file ≡ raster
-  page-raster = rw (page-accepted, page-passes .1) (take-all (width * height) raster (omega (arith, p .raster-length)))
+  page-raster = rw (page-accepted, page-passes .2) (take-all (width * height) raster (omega (arith, p .raster-length)))

@@ -13,6 +13,7 @@ use Rattle.pgm.specs.declared.header.Header.{Header}
 use Rattle.pgm.specs.declared.header.Header.the-variants.{Read, Broken}
 use Rattle.pgm.specs.declared.Found.{Found}
 use Rattle.pgm.specs.declared.Found.the-variants.{Picture, Refused}
+use Rattle.pgm.specs.declared.reader.Span.{Span}
 
 -- "The maximum is 1 to 255."
 abbrev pub maximum-fits : ℕ → Bool
@@ -34,6 +35,11 @@ read-answer file = must Refused (starts-with-sign file) Sign (judged file (heade
 abbrev pub found-numbers : Found → List ℕ
 found-numbers (Picture width height maximum start) = 0 ∷ width ∷ height ∷ maximum ∷ start ∷ []
 found-numbers (Refused cause) = number-of cause ∷ []
+
+-- where the raster of an accepted file lies in it; no byte of a refused one
+abbrev pub raster-span : Found → Span
+raster-span (Picture width height maximum start) = record { start = start; length = width * height }
+raster-span (Refused cause) = record { start = 0; length = 0 }
 
 -- the raster of an accepted file, "a part of the file"; nothing of a refused one
 abbrev pub raster-part : List ℕ → Found → List ℕ

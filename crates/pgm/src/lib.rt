@@ -7,7 +7,8 @@ ghost use lib.Dec.{eqb};
 ghost use lib.ListN.{length};
 ghost use lib.Seq.{sets};
 ghost use Rattle.causes.specs.Sides.{sides-fit};
-ghost use Rattle.pgm.specs.Read.{maximum-fits, judged, read-answer, found-numbers, raster-of};
+ghost use Rattle.pgm.specs.Header.{sign, header-at};
+ghost use Rattle.pgm.specs.Read.{maximum-fits, judged, read-answer, found-numbers, raster-span, raster-part, raster-of};
 ghost use Rattle.pgm.specs.Write.{decimal, pgm-file, write-answer, written-numbers, buffer-after, Fields};
 
 mod digits;
@@ -17,6 +18,7 @@ mod samples;
 
 use causes::Cause;
 use header::Header;
+use reader::Span;
 
 // What reading finds: the picture's width, height and maximum and the position where its raster starts, or the cause.
 pub enum Found {
@@ -108,20 +110,45 @@ pub fn read(file: &[u8]) -> Found
     }
 }
 
-// The raster of a file as a part of it, uncopied; empty where the file is refused.
-pub fn raster(file: &[u8]) -> &[u8]
-    ensures { λ r. ⌜ now r ≡ raster-of (now (file .entry)) ⌝ }
+// Where a header that was read says that the raster lies: no byte of it where the file is refused.
+fn raster_span(file: &[u8], found: Header) -> Span
+    ensures { λ r. ⌜ r ≡ raster-span (judged (now (file .entry)) found) ⌝ }
 {
     let Found::Picture {
         width,
         height,
         maximum: _,
         start,
-    } = read(file)
+    } = judge(file, found)
     else {
-        return &file[..0];
+        return Span {
+            start: 0,
+            length: 0,
+        };
     };
-    reader::raster_from(file, start, pixels(width, height))
+    Span {
+        start,
+        length: pixels(width, height),
+    }
+}
+
+// The raster of a file that starts with the sign. One reader goes from the header to the raster.
+fn raster_after_sign(file: &[u8]) -> &[u8]
+    ensures { λ s. ⌜ now s ≡ raster-part (now (file .entry)) (judged (now (file .entry)) (header-at (now (file .entry)) (length sign))) ⌝ }
+{
+    let r = reader::opened(file);
+    let span = raster_span(file, reader::header(r));
+    reader::taken(reader::moved(r, span.start), span.length)
+}
+
+// The raster of a file as a part of it, uncopied; empty where the file is refused.
+pub fn raster(file: &[u8]) -> &[u8]
+    ensures { λ r. ⌜ now r ≡ raster-of (now (file .entry)) ⌝ }
+{
+    if !header::has_sign(file) {
+        return &file[..0];
+    }
+    raster_after_sign(file)
 }
 
 // Stores one byte and the digits of x from `at` on, and answers the position after them.

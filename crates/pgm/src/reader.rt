@@ -1,5 +1,7 @@
-// A reader: it keeps the file's bytes and its own position together. Each function over it takes it apart and leaves the work to a
-// function on the slice and the number; `header_of` and `raster_from`, whose parameters are plain, are for every other caller.
+// A reader: it keeps the file's bytes and its own position together. One reader goes from header to raster: it is opened once, its
+// header is read from its position on, and it is handed on at the position after the header, from where the raster is taken. Each
+// function over it takes it apart and leaves the work to a function on the slice and the number; `header_of`, and `raster_after_sign`
+// of the crate, have plain parameters and are for every other caller.
 ghost use mathlib.Core.Path.{_≡_};
 ghost use Prim.Native.Nat.{_+_, _≤_};
 ghost use lib.ListN.{length, take, drop};
@@ -10,6 +12,12 @@ use crate::header::Header;
 pub struct Reader<'a> {
     pub file: &'a [u8],
     pub at: usize,
+}
+
+// Where a part of a file lies.
+pub struct Span {
+    pub start: usize,
+    pub length: usize,
 }
 
 // A reader that stands right after the sign.
@@ -26,7 +34,7 @@ pub fn header<'a>(r: Reader<'a>) -> Header
     header::header_at(r.file, r.at)
 }
 
-// The reader, handed back at another position of the same file.
+// The same reader, handed on at another position of its file.
 pub fn moved<'a>(r: Reader<'a>, at: usize) -> Reader<'a>
     ensures { λ q. ⌜ (q .file ≡ r .entry .file) × (q .at ≡ at) ⌝ }
 {
@@ -55,12 +63,4 @@ pub fn header_of(file: &[u8]) -> Header
     ensures { λ h. ⌜ h ≡ header-at (now (file .entry)) (length sign) ⌝ }
 {
     header(opened(file))
-}
-
-// The raster of n bytes of a file, in which it starts at `start`.
-pub fn raster_from(file: &[u8], start: usize, n: usize) -> &[u8]
-    requires { ⌜ start + n ≤ length (now file) ⌝ }
-    ensures { λ s. ⌜ now s ≡ take n (drop start (now (file .entry))) ⌝ }
-{
-    taken(moved(opened(file), start), n)
 }
