@@ -98,6 +98,11 @@ unfolding count
 count-le zero s = omega arith
 count-le (suc n) s = omega (arith, count-le n s, one-le (s n) true (λ e. refl))
 
+pub count-none : (n : ℕ) (s : Positions) → ((q : ℕ) → q < n → s q ≡ false) → count n s ≡ 0
+unfolding count
+count-none zero s none = refl
+count-none (suc n) s none = rw (none n (omega arith)) (omega (arith, count-none n s (λ q b. none q (omega arith))))
+
 pub count-mono : (n : ℕ) (s t : Positions) → Inside n s t → count n s ≤ count n t
 unfolding count
 count-mono zero s t h = omega arith
