@@ -1,3 +1,4 @@
+pub mod Openings
 pub mod Accepted
 pub mod Judging
 pub mod Answers

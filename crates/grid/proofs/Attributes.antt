@@ -1,17 +1,20 @@
--- An attribute cannot fall as a set grows, and neighbours are mutual. Assumes nothing.
+-- An attribute cannot fall as a set grows and is 0 of the empty set alone; neighbours are mutual. Assumes nothing.
 use Prim.Native.Nat.{ℕ, _+_, _-_, _≤_, _<_}
 use mathlib.Core.Bool.{Bool, true, false, cond, _||_, false≢true}
+use mathlib.Core.Logic.{⊎-elim}
 use mathlib.Core.Path.{_≡_, refl}
 use native.Mathlib.Nat.{div-le-self, mod-le}
 use native.Mathlib.Omega.{arith}
 use lib.Dec.{eqb}
+use borrow.Author.Tests.{leb-true}
 use Rattle.sets.specs.Sets.{Positions, Inside, some-in, count}
 use Rattle.sets.specs.Gather.{least, greatest}
-use Rattle.sets.proofs.Laws.{some-in-intro, some-in-elim, count-mono, count-some}
+use Rattle.sets.proofs.Laws.{some-in-intro, some-in-elim, none-in, count-mono, count-none, count-some}
+use Rattle.sets.proofs.Tests.{decided}
 use Rattle.sets.proofs.Gather.{min-mono, max-mono}
 use Rattle.connected.specs.Component.{Symmetric}
 use Rattle.connected.proofs.Laws.{both-symmetric}
-use Rattle.opening.specs.Opening.{Increasing}
+use Rattle.opening.specs.Opening.{Increasing, Needs-pixel, at-least}
 use Rattle.opening.proofs.Levels.{cond-case}
 use Rattle.grid.specs.Neighbours.{edge-neighbours, next-in-row, next-in-column}
 use Rattle.grid.specs.Attributes.{extent, side, attribute}
@@ -62,3 +65,16 @@ attribute-some w n a s q below in-s =
     (eqb a 1)
     (λ e. count-some n s q below in-s)
     (λ e. rw (extent-ends n (side w a) s (some-in-intro n s q below in-s)) (omega arith))
+
+-- a set with no pixel in it has attribute 0
+attribute-none : (w n a : ℕ) (s : Positions) → some-in n s ≡ false → attribute w n a s ≡ 0
+unfolding attribute extent
+attribute-none w n a s none = cond-case (λ (k : ℕ). k ≡ 0) (eqb a 1) (λ e. count-none n s (none-in n s none)) (λ e. rw none)
+
+-- so it passes no threshold from 1 on
+pub attribute-needs-pixel : (w n a t : ℕ) → 1 ≤ t → Needs-pixel n (at-least (attribute w n a) t)
+attribute-needs-pixel w n a t from-one s pass =
+    ⊎-elim
+    (λ some. some)
+    (λ none. absurd (omega (arith, leb-true t (attribute w n a s) pass, attribute-none w n a s none)))
+    (decided (some-in n s))

@@ -8,7 +8,7 @@ use native.Mathlib.Omega.{arith}
 use borrow.Author.Tests.{leb-true, le-leb}
 use Rattle.sets.specs.Sets.{Positions, Inside, member}
 use Rattle.sets.proofs.Tests.{decided}
-use Rattle.connected.specs.Component.{Adjacency, Symmetric, component, Walk}
+use Rattle.connected.specs.Component.{Adjacency, Symmetric, component, Walk, here, on}
 use Rattle.connected.proofs.Laws.{walk-component, component-walk, component-self, component-inside, component-below, component-mono, component-list, component-step, walk-within}
 use Rattle.opening.specs.Opening.{level-set, component-at, least-grey}
 use Rattle.opening.proofs.Levels.{least-grey-le, least-grey-attained}
@@ -33,6 +33,15 @@ module _ (n : ℕ) (adj : Adjacency) where
   pub component-grey : (g : ℕ → ℕ) (h p q : ℕ) → member (component-at n adj g h p) q ≡ true → h ≤ g q
   unfolding component-at
   component-grey g h p q e = leb-true h (g q) (component-inside n adj (level-set g h) p q e)
+
+  -- and so is that of the pixel whose component it is, if it holds any pixel
+  pub component-start : (g : ℕ → ℕ) (h p q : ℕ) → member (component-at n adj g h p) q ≡ true → h ≤ g p
+  unfolding component-at
+  component-start g h p q e = leb-true h (g p) (start q (component-walk n adj (level-set g h) p q e))
+    where
+      start : (r : ℕ) → Walk n adj (level-set g h) p r → level-set g h p ≡ true
+      start r (here below in-set) = in-set
+      start r (on walk near below in-set) = start _ walk
 
   -- a component all of whose pixels are at least k in another picture lies in the component there
   pub level-within : (f g : ℕ → ℕ) (h k p : ℕ) → ((q : ℕ) → q < n → member (component-at n adj f h p) q ≡ true → k ≤ g q)

@@ -1,6 +1,7 @@
 pub mod Levels
 pub mod Components
 pub mod Opened
+pub mod Greatest
 pub mod Leveling
 pub mod Absorb
 pub mod Threshold

@@ -1,10 +1,10 @@
 -- The laws of openings by what they keep. All go by the level-set law: a level above the least grey is at most the opened grey of a
 -- pixel exactly if it is at most its grey and the component of the pixel at that level is kept.
-use Prim.Native.Nat.{ℕ, _-_, _≤_, _<_}
+use Prim.Native.Nat.{ℕ, _≤_, _<_}
 use mathlib.Core.Bool.{true}
 use mathlib.Core.Logic.{_↔_}
 use mathlib.Core.Path.{_≡_, ap, fun-ext}
-use native.Mathlib.Nat.{le-antisymm}
+use native.Mathlib.Nat.{le-antisymm, le-trans}
 use native.Mathlib.Omega.{arith}
 use Rattle.sets.specs.Sets.{Positions, member}
 use Rattle.connected.specs.Component.{Adjacency}
@@ -16,24 +16,19 @@ module _ (n : ℕ) (adj : Adjacency) where
   -- the opened grey is at least the least grey
   pub opened-ge : (keeps : Keeps) (g : ℕ → ℕ) (p : ℕ) → least-grey n g ≤ opened-by n adj keeps g p
   unfolding opened-by
-  opened-ge keeps g p = highest-ge (least-grey n g) _ (g p - least-grey n g)
+  opened-ge keeps g p = highest-ge (least-grey n g) _ _
 
   -- and at most the grey: an opening is anti-extensive
   pub opened-le : (keeps : Keeps) (g : ℕ → ℕ) (p : ℕ) → p < n → opened-by n adj keeps g p ≤ g p
   unfolding opened-by
-  opened-le keeps g p below =
-      omega (
-        arith,
-        highest-le (least-grey n g) (λ (h : ℕ). keeps (member (component-at n adj g h p))) (g p - least-grey n g),
-        least-grey-le n g p below,
-      )
+  opened-le keeps g p below = le-trans (highest-le (least-grey n g) _ _) (omega (arith, least-grey-le n g p below))
 
   -- the level-set law, from the kept component to the opened grey
   pub opened-above : (keeps : Keeps) (g : ℕ → ℕ) (p h : ℕ) → least-grey n g < h → h ≤ g p
       → keeps (member (component-at n adj g h p)) ≡ true → h ≤ opened-by n adj keeps g p
   unfolding opened-by
   opened-above keeps g p h above high kept =
-      highest-greatest (least-grey n g) _ (g p - least-grey n g) h above (omega arith) kept
+      highest-greatest (least-grey n g) _ _ h above (omega arith) kept
 
   module _ (keeps : Keeps) (up : Upward n keeps) where
     -- the level-set law, from the opened grey to the kept component
@@ -45,11 +40,7 @@ module _ (n : ℕ) (adj : Adjacency) where
         (member (component-at n adj g (opened-by n adj keeps g p) p))
         (member (component-at n adj g h p))
         (level-mono n adj g g (opened-by n adj keeps g p) h p (λ q b k. omega arith))
-        (highest-passes
-        (least-grey n g)
-        (λ (k : ℕ). keeps (member (component-at n adj g k p)))
-        (g p - least-grey n g)
-        (omega arith))
+        (highest-passes (least-grey n g) (λ (k : ℕ). keeps (member (component-at n adj g k p))) _ (omega arith))
 
     -- the level-set law
     pub opened-level : (g : ℕ → ℕ) (p h : ℕ) → p < n → least-grey n g < h

@@ -5,7 +5,7 @@ use mathlib.Core.Bool.{Bool, true, cond}
 use mathlib.Core.List.{List}
 use mathlib.Core.Path.{_≡_}
 use lib.Dec.{leb}
-use Rattle.sets.specs.Sets.{Positions, Inside, member}
+use Rattle.sets.specs.Sets.{Positions, Inside, some-in, member}
 use Rattle.connected.specs.Component.{Adjacency, component}
 
 -- "For a grey h, the level set holds the pixels of grey h or more."
@@ -29,6 +29,10 @@ Keeps = Positions → Bool
 -- a test that holds of every set that holds one of which it holds
 abbrev pub Upward : ℕ → Keeps → Type 0
 Upward n keeps = (s t : Positions) → Inside n s t → keeps s ≡ true → keeps t ≡ true
+
+-- a test that no set without pixels passes
+abbrev pub Needs-pixel : ℕ → Keeps → Type 0
+Needs-pixel n keeps = (s : Positions) → keeps s ≡ true → some-in n s ≡ true
 
 -- an attribute cannot fall as a set grows
 abbrev pub Increasing : ℕ → (Positions → ℕ) → Type 0
