@@ -1,5 +1,5 @@
 -- The steps of a climb and of the pass over the positions. Assumes nothing.
-use Prim.Native.Nat.{ℕ, _+_, _<_}
+use Prim.Native.Nat.{ℕ, zero, suc, _+_, _≤_, _<_}
 use mathlib.Core.List.{List}
 use mathlib.Core.Logic.{⊎-elim}
 use mathlib.Core.Path.{_≡_}
@@ -8,7 +8,7 @@ use lib.ListN.{length, set, length-set}
 use lib.Seq.{getD-set-same, getD-set-other}
 use Rattle.sets.proofs.Tests.{last-or-below}
 use Rattle.calls.specs.Calls.{grey}
-use Rattle.openings.specs.Climbing.{parent, attribute, Representative, Climbable, From, Kept, Opened-to, Pass}
+use Rattle.openings.specs.Climbing.{parent, attribute, Representative, Climbable, From, Kept, kept, root, up, Opened-to, Pass}
 
 module _ (picture words : List ℕ) (n r : ℕ) (from : From picture words n r) (higher : parent words r ≡ r → ⊥) where
   -- the parent of a node that is not the root
@@ -26,6 +26,13 @@ module _ (picture words : List ℕ) (n r : ℕ) (from : From picture words n r) 
       ⊎-elim (λ same. absurd (higher same)) (λ less. less) (from .climbable .falls r (from .below) (from .representative))
 
 module _ (picture words : List ℕ) (n t : ℕ) where
+  -- what at most k steps find, at most l find
+  pub kept-within : {k r v : ℕ} → Kept picture words n t k r v → (l : ℕ) → k ≤ l → Kept picture words n t l r v
+  kept-within (kept enough) l more = kept enough
+  kept-within (root top) l more = root top
+  kept-within (up gone rest) zero more = absurd (omega arith)
+  kept-within (up gone rest) (suc l) more = up gone (kept-within rest l (omega arith))
+
   pub pass-start : (output : List ℕ) → Climbable picture words n → length output ≡ n → Pass picture words n t 0 output
   pass-start output climbable entries =
       record { climbable = climbable; entries = entries; reached = omega arith; opened = λ p below. absurd (omega arith) }
@@ -47,8 +54,11 @@ module _ (picture words : List ℕ) (n t : ℕ) where
     pub pass-from : Representative words n p → From picture words n p
     pass-from representative = record { climbable = pass .climbable; below = below; representative = representative }
 
-    pub pass-itself : (v : ℕ) → Representative words n p → Kept picture words n t p v → Opened-to picture words n t p v
-    pass-itself v representative found = record { own = λ none. absurd (representative none); itself = λ e. found }
+    -- the levels of bytes fall at most 255 times
+    pub pass-itself : (v : ℕ) → Representative words n p → grey picture p < 256 → Kept picture words n t (grey picture p) p v
+        → Opened-to picture words n t p v
+    pass-itself v representative byte found =
+        record { own = λ none. absurd (representative none); itself = λ e. kept-within found _ (omega arith) }
 
     pub pass-more : (v : ℕ) → Opened-to picture words n t p v → Pass picture words n t (p + 1) (set output p v)
     pass-more v found =

@@ -58,17 +58,17 @@ module _ (n : ℕ) (adj : Adjacency) (symm : Symmetric adj) (attr : Positions �
     is-root r q e (inl next) = absurd (omega (arith, next .darker, ap (grey picture) e))
     is-root r q e (inr (none, same)) = none
 
-    kept-opened : {r v : ℕ} → Kept picture record-words n t r v → Self n adj (grey picture) r → v ≡ opened n adj attr t (grey picture) r
-    kept-opened {r} (kept le) (b, self) =
+    kept-opened : {k r v : ℕ} → Kept picture record-words n t k r v → Self n adj (grey picture) r → v ≡ opened n adj attr t (grey picture) r
+    kept-opened {k} {r} (kept le) (b, self) =
         sym
         (opened-node n adj symm (grey picture) (at-least attr t) (at-least-up n attr increasing t) r b
         (le-leb t _ (omega (arith, le, at-representative symm some reading r (b, self) .is-attribute))))
-    kept-opened {r} (root top) (b, self) =
+    kept-opened {k} {r} (root top) (b, self) =
         let of = at-representative symm some reading r (b, self) in
         sym
         (opened-root n adj symm (grey picture) (at-least attr t) (at-least-up n attr increasing t) whole r b
         (is-root r (parent record-words r) top (leads-up symm some reading r b (of .above-zero))))
-    kept-opened {r} (up gone rest) (b, self) =
+    kept-opened {k} {r} (up gone rest) (b, self) =
         let of = at-representative symm some reading r (b, self) in
         kept-opened rest (leads-self symm some reading r b)
         ∙ opened-up r (parent record-words r) b (omega (arith, gone, of .is-attribute)) (leads-up symm some reading r b (of .above-zero))

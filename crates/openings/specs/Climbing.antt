@@ -1,6 +1,6 @@
 -- Climbing in a tree record, by its words alone: what the record must be like, and which grey a climb finds. The words are parents and
 -- attributes; a representative is the lowest own pixel, so that its new grey is there before those of the others.
-use Prim.Native.Nat.{ℕ, _+_, _≤_, _<_}
+use Prim.Native.Nat.{ℕ, suc, _+_, _≤_, _<_}
 use mathlib.Core.List.{List}
 use mathlib.Core.Logic.{_⊎_}
 use mathlib.Core.Path.{_≡_}
@@ -38,16 +38,16 @@ pub record From (picture words : List ℕ) (n r : ℕ) : Type 0 where
   pub representative : Representative words n r
 
 -- "climbing from its node to the nearest kept ancestor": from the representative r on, the first node that has attribute t or more, or
--- else the root, has the grey v
-pub data Kept (picture words : List ℕ) (n t : ℕ) : ℕ → ℕ → Type 0 where
-  kept : {r : ℕ} → t ≤ attribute words n r → Kept picture words n t r (grey picture r)
-  root : {r : ℕ} → parent words r ≡ r → Kept picture words n t r (grey picture r)
-  up : {r v : ℕ} → attribute words n r < t → Kept picture words n t (parent words r) v → Kept picture words n t r v
+-- else the root, has the grey v and is found in at most k steps to a parent
+pub data Kept (picture words : List ℕ) (n t : ℕ) : ℕ → ℕ → ℕ → Type 0 where
+  kept : {k r : ℕ} → t ≤ attribute words n r → Kept picture words n t k r (grey picture r)
+  root : {k r : ℕ} → parent words r ≡ r → Kept picture words n t k r (grey picture r)
+  up : {k r v : ℕ} → attribute words n r < t → Kept picture words n t k (parent words r) v → Kept picture words n t (suc k) r v
 
--- the grey v of a pixel p is found by a climb from its representative
+-- the grey v of a pixel p is found by a climb from its representative; "a climb has at most 255 steps"
 pub record Opened-to (picture words : List ℕ) (n t p v : ℕ) : Type 0 where
-  pub own : attribute words n p ≡ 0 → Kept picture words n t (parent words p) v
-  pub itself : Representative words n p → Kept picture words n t p v
+  pub own : attribute words n p ≡ 0 → Kept picture words n t 255 (parent words p) v
+  pub itself : Representative words n p → Kept picture words n t 255 p v
 
 -- every position before k of the output has the grey that a climb finds
 abbrev pub Opened-before : List ℕ → List ℕ → ℕ → ℕ → ℕ → List ℕ → Type 0

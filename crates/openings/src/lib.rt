@@ -4,13 +4,14 @@ ghost use Prim.Native.Nat.{_<_};
 ghost use mathlib.Core.Path.{_≡_};
 ghost use lib.ListN.{length};
 ghost use Rattle.calls.specs.Judging.{verdict-numbers};
-ghost use Rattle.calls.specs.Calls.{opening-judged, call-workspace, opening-output};
+ghost use Rattle.calls.specs.Calls.{grey, opening-judged, call-workspace, opening-output};
 ghost use Rattle.openings.specs.Climbing.{Climbable, From, Kept, Opened-to, Opened-before, Pass};
 
-// The grey of the nearest kept ancestor of the node of `r`, itself among them: recursion to the parent, whose level is below.
+// The grey of the nearest kept ancestor of the node of `r`, itself among them: recursion to the parent, whose level is below. So there are
+// no more steps than the grey of `r` counts.
 fn climb(picture: &[u8], words: &[u32], n: usize, r: usize, threshold: u32) -> u8
     requires { ⌜ From (now picture) (now words) n r ⌝ }
-    ensures { λ v. ⌜ Kept (now (picture .entry)) (now (words .entry)) n threshold r v ⌝ }
+    ensures { λ v. ⌜ Kept (now (picture .entry)) (now (words .entry)) n threshold (grey (now (picture .entry)) r) r v ⌝ }
 {
     if threshold <= words[n + r] {
         return picture[r];

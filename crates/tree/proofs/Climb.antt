@@ -11,7 +11,7 @@ use native.Mathlib.Omega.{arith}
 use lib.Dec.{eqb}
 use borrow.Author.Tests.{eqb-true, eqb-false}
 use Rattle.sets.specs.Sets.{member}
-use Rattle.sets.proofs.Tests.{clash, is-false, or-cases, or-neither, le-or-lt}
+use Rattle.sets.proofs.Tests.{clash, or-cases, or-neither, le-or-lt}
 use Rattle.connected.specs.Component.{Adjacency, Symmetric}
 use Rattle.opening.specs.Opening.{component-at, least-grey, Keeps, Upward, opened-by}
 use Rattle.opening.specs.Node.{node}
@@ -114,7 +114,7 @@ module _ (n : ℕ) (adj : Adjacency) (symm : Symmetric adj) (g : ℕ → ℕ) wh
           (λ f. absurd (eqb-false (parent-representative n adj g p) (representative n adj g p) e (f .1)))
           (parent-found n adj symm g p)
 
-      -- "found by climbing from its node to the nearest kept ancestor"
+      -- "found by climbing from its node to the nearest kept ancestor", in no more steps than the grey counts
       pub climbed-opened : (k p : ℕ) → p < n → g p ≤ k → climbed n adj keeps g k p ≡ opened-by n adj keeps g p
       unfolding climbed
       climbed-opened zero p b l = omega (arith, opened-le n adj keeps g p b)
@@ -130,28 +130,3 @@ module _ (n : ℕ) (adj : Adjacency) (symm : Symmetric adj) (g : ℕ → ℕ) wh
           let w = goes-on p more in
           climbed-opened k (parent-representative n adj g p) (together-below n adj symm g _ p _ (w .over)) (omega (arith, w .darker))
           ∙ sym (opened-parent p (parent-representative n adj g p) b gone w))
-
-      -- "so a climb has at most 255 steps"
-      pub climbed-255 : ((q : ℕ) → g q < 256) → (p : ℕ) → p < n → climbed n adj keeps g 255 p ≡ opened-by n adj keeps g p
-      climbed-255 bytes p b = climbed-opened 255 p b (omega (arith, bytes p))
-
-      -- a node goes, that is, its own pixels lose grey, exactly if it is not the root and not kept
-      pub goes : (p : ℕ) → p < n → keeps (member (node n adj g p)) ≡ false → (Root n adj g p → ⊥) → opened-by n adj keeps g p < g p
-      goes p b gone inner =
-          let q : ℕ = parent-representative n adj g p in
-          ⊎-elim
-          (λ f.
-          omega (
-            arith,
-            opened-parent p q b gone (f .0),
-            opened-le n adj keeps g q (together-below n adj symm g (g q) p q (f .0 .over)),
-            f .0 .darker,
-          ))
-          (λ f. absurd (inner (f .0)))
-          (parent-found n adj symm g p)
-
-      pub gone : (p : ℕ) → p < n → opened-by n adj keeps g p < g p → (keeps (member (node n adj g p)) ≡ false) × (Root n adj g p → ⊥)
-      gone p b less = (
-        is-false (keeps (member (node n adj g p))) (λ kept. omega (arith, opened-node p b kept)),
-        λ root. omega (arith, opened-root p b root),
-      )

@@ -1,6 +1,6 @@
 -- `openings::climb` meets its contract, by recursion on the grey of the node, which falls. Assumes nothing.
 use Rattle.openings.specs.Climbing.{kept, root, up}
-use Rattle.openings.proofs.Climbing.{from-parent, parent-falls}
+use Rattle.openings.proofs.Climbing.{from-parent, parent-falls, kept-within}
 use lib.ListN.{getD}
 use native.Mathlib.Omega.{arith}
 use Prim.Native.Nat.{ℕ, _<_}
@@ -77,7 +77,15 @@ climb-climb-requires t c κs =
 
 climb-returns-3 :
     (t : ℕ) → climb-lts.Need-returns-3 (climb-below t, climb.Post) (climb-at t) climb.Post
-climb-returns-3 t c = up (c .before .before .before .if1 .left) (c .climb .ensures)
+climb-returns-3 t c =
+    kept-within
+    _
+    _
+    _
+    _
+    (up (c .before .before .before .if1 .left) (c .climb .ensures))
+    _
+    (parent-falls _ _ _ _ (c .before .before .before .before .before .before .before .pre .1) (c .before .if2 .left))
 
 pub +climb-spec : {M : Type 1} → statement M
 +climb-spec =

@@ -36,8 +36,9 @@ climb-requires c κs =
 
 returns-2 : tie.Need-returns-2
 returns-2 c =
-    pass-itself _ _ _ _ _ _ (c .before .before .before .before .before .before .pre .0) (c .before .before .before .before .before .before .pre .1)
-    _ (c .before .if1 .left) (c .climb .ensures)
+    let start = c .before .before .before .before .before .before in
+    let bytes = c .before .before .before .before .before .shared-slice-known .given in
+    pass-itself _ _ _ _ _ _ (start .pre .0) (start .pre .1) _ (c .before .if1 .left) (omega (arith, bytes (start .args .p))) (c .climb .ensures)
 
 pub new-grey-spec : {M : Type 1} → statement M
 new-grey-spec =
