@@ -27,7 +27,7 @@ use Rattle.calls.specs.declared.Verdict.the-variants.{Accepted, Refused}
 use Rattle.calls.proofs.Accepted.{bounded, step-list}
 use Rattle.calls.specs.Calls.{grey, opening, opening-judged, opening-output, map-judged, map-residues, map-indices, residue-map, index-map}
 use Rattle.chain.specs.Chain.{Call, verdict, accepted, answered, handed-on, Chain, Claim, Named, Equal, Whole, No-node-between, chain-picture, accepted-thresholds, largest-threshold, chain-falls, chain-residues, chain-indices}
-use Rattle.chain.proofs.Handed.{Opened-at, opened-picture-at, output-accepted, handed-refused, chain-opened, chain-falls-openings}
+use Rattle.chain.proofs.Handed.{Opened-at, opened-picture-at, output-accepted, handed-refused, chain-opened, chain-falls-openings, chain-falls-total}
 
 -- what a refused call answers
 refused-number : (judged : Verdict) → is-accepted judged ≡ false
@@ -121,8 +121,14 @@ module _ (w h a : ℕ) (original : List ℕ) where
         (grey original)
         t
         (largest-threshold original calls) in (
-          (λ same. agree .0 (λ p below. sym (at p below) ∙ sym (same p below) ∙ chain-is-opened p below)),
-          (λ free p below. chain-is-opened p below ∙ sym (agree .1 free p below) ∙ sym (at p below)),
+          -- "only when"
+          (λ same p below above between.
+              agree .0 (λ q b. sym (at q b) ∙ sym (same q b) ∙ chain-is-opened q b) p below above (omega arith)),
+          -- "when"
+          (λ free p below.
+              chain-is-opened p below
+              ∙ sym (agree .1 (λ q b above between. free q b above (omega arith)) p below)
+              ∙ sym (at p below)),
         )
 
     -- where the thresholds are a step list, the falls of the chain are the residues of the original
@@ -174,6 +180,7 @@ module _ (w h a : ℕ) (original : List ℕ) where
             opened-at-leveling (largest-threshold original calls) (chain-picture original calls) (chain-is-opened calls (chain .named));
         single-leveling = λ t workspace output ok.
             opened-at-leveling t (opening-output w h a t original workspace output) (single-opened t workspace output ok);
+        falls = chain-falls-total w h a original calls (chain .named);
         maps = λ steps thresholds good workspace residues indices ok.
             let (same-residues, same-indices) = chain-maps calls (chain .named) steps thresholds good in
             let (written-residues, written-indices) = maps-accepted w h a steps original workspace residues indices ok in

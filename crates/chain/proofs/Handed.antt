@@ -122,6 +122,21 @@ module _ (w h a : ℕ) where
       (λ refused.
       chain-opened s g (handed-on given call) rest (named .1) (rw (handed-refused given call refused) at))
 
+  -- every fall is a true difference: the falls of a pixel and its grey in the chain's picture add up to the grey it had
+  pub chain-falls-total : (given : List ℕ) (calls : List Call) → Named w h a given calls → (p : ℕ) → p < w * h
+      → total (chain-falls given calls p) + grey (chain-picture given calls) p ≡ grey given p
+  unfolding Named chain-picture chain-falls total
+  chain-falls-total given [] named p below = omega arith
+  chain-falls-total given (call ∷ rest) named p below =
+      let on : total (chain-falls (handed-on given call) rest p) + grey (chain-picture (handed-on given call) rest) p
+      ≡ grey (handed-on given call) p =
+      chain-falls-total (handed-on given call) rest (named .1) p below in
+      cond-case
+      (λ (l : List ℕ). total l + grey (chain-picture (handed-on given call) rest) p ≡ grey given p)
+      (accepted given call)
+      (λ ok. omega (arith, handed-le given call (named .0) ok p below))
+      (λ refused. omega (arith, ap (λ (l : List ℕ). grey l p) (handed-refused given call refused)))
+
   -- the falls of p along the openings of g, from the opening at s on
   abbrev pub opening-falls : ℕ → List ℕ → (ℕ → ℕ) → ℕ → List ℕ
   opening-falls s steps g p =
@@ -159,18 +174,3 @@ module _ (w h a : ℕ) where
           subst (λ (k : ℕ). Opened-at k g next) (omega arith) (handed-opened given call (named .0) ok s g at) in
           cc (at p below, at-t p below, go-on t at-t (and-right (ltb s t) (rising t later) rise))
       go false refused rise go-on = go-on s (rw (handed-refused given call refused) at) rise
-
-  -- every fall is a true difference: the falls of a pixel and its grey in the chain's picture add up to the grey it had
-  pub chain-falls-total : (given : List ℕ) (calls : List Call) → Named w h a given calls → (p : ℕ) → p < w * h
-      → total (chain-falls given calls p) + grey (chain-picture given calls) p ≡ grey given p
-  unfolding Named chain-picture chain-falls total
-  chain-falls-total given [] named p below = omega arith
-  chain-falls-total given (call ∷ rest) named p below =
-      let on : total (chain-falls (handed-on given call) rest p) + grey (chain-picture (handed-on given call) rest) p
-      ≡ grey (handed-on given call) p =
-      chain-falls-total (handed-on given call) rest (named .1) p below in
-      cond-case
-      (λ (l : List ℕ). total l + grey (chain-picture (handed-on given call) rest) p ≡ grey given p)
-      (accepted given call)
-      (λ ok. omega (arith, handed-le given call (named .0) ok p below))
-      (λ refused. omega (arith, ap (λ (l : List ℕ). grey l p) (handed-refused given call refused)))

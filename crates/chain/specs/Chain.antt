@@ -1,5 +1,5 @@
 -- Chains of opening calls, and the claim about a whole chain.
-use Prim.Native.Nat.{ℕ, _*_, _-_, _≤_, _<_, min, max}
+use Prim.Native.Nat.{ℕ, _+_, _*_, _-_, _≤_, _<_, min, max}
 use mathlib.Core.Bool.{Bool, true, false, cond}
 use mathlib.Core.List.{List, [], _∷_}
 use mathlib.Core.Logic.{_↔_}
@@ -11,7 +11,7 @@ use Rattle.grid.specs.Attributes.{attribute}
 use Rattle.opening.specs.Opening.{least-grey}
 use Rattle.opening.specs.Node.{node}
 use Rattle.opening.specs.Leveling.{Leveling}
-use Rattle.opening.specs.Residue.{largest, largest-place}
+use Rattle.opening.specs.Residue.{total, largest, largest-place}
 use Rattle.causes.specs.Causes.{number-of}
 use Rattle.causes.specs.Sides.{sides-fit}
 use Rattle.causes.specs.declared.Cause.{Cause}
@@ -133,6 +133,9 @@ pub record Claim (w h a : ℕ) (original : List ℕ) (calls : List Call) : Type 
   -- and so is the single opening
   pub single-leveling : (t : ℕ) (workspace output : List ℕ) → opening-judged w h a t original workspace output ≡ Accepted
       → Leveling (w * h) (edge-neighbours w) (grey original) (grey (opening-output w h a t original workspace output))
+  -- subtraction hides a rise, so it is said that there is none: the falls of a pixel at the accepted calls and its grey in the chain's
+  -- picture add up to the grey that it had
+  pub falls : (p : ℕ) → p < w * h → total (chain-falls original calls p) + grey (chain-picture original calls) p ≡ grey original p
   -- "If the accepted thresholds, in order, are a step list, [..] both [maps] equal, at every pixel, what an accepted map call on the
   -- original writes for that list and the chain's width, height and attribute."
   pub maps : (steps : List ℕ) → accepted-thresholds original calls ≡ steps → steps-good steps ≡ true
