@@ -6,17 +6,17 @@ use Rattle.connected.specs.Component.{seed, grow, grown, component}
 use Rattle.grid.specs.Attributes.{extent, side, attribute}
 use Rattle.opening.specs.Opening.{component-at, least-grey, highest-above, opened-by}
 use Rattle.opening.specs.Residue.{falls-from, largest, last-place, largest-place, residue-at, index-at}
-use Rattle.tree.specs.Tree.{lowest-own, representative, node-below, parent-representative, is-representative, parent-word, attribute-word, number-of-nodes, parents, attributes}
-use Rattle.calls.specs.Calls.{opened-picture, residue-map, index-map}
+use Rattle.tree.specs.Tree.{lowest-own, representative, node-below, parent-representative, is-representative, parent-word, attribute-word, number-of-nodes, parents, attributes, workspace}
+use Rattle.calls.specs.Judging.{attribute-good, call-verdict}
+use Rattle.calls.specs.Calls.{built, opened-picture, residue-map, index-map}
 use Rattle.small_pictures.specs.Table.{Starred}
 
 pub starred : Starred
-unfolding some-in count table-from table gather seed grow grown component extent side attribute component-at least-grey highest-above opened-by falls-from largest last-place largest-place lowest-own representative node-below parent-representative is-representative parent-word attribute-word number-of-nodes parents attributes residue-at index-at opened-picture residue-map index-map
+unfolding call-verdict attribute-good built some-in count table-from table gather seed grow grown component extent side attribute component-at least-grey highest-above opened-by falls-from largest last-place largest-place lowest-own representative node-below parent-representative is-representative parent-word attribute-word number-of-nodes parents attributes workspace residue-at index-at opened-picture residue-map index-map
 starred =
     record {
-      record-parents = refl;
-      record-attributes = refl;
-      record-nodes = refl;
+      tree-record = refl;
+      tree-nodes = λ lent size. rw size;
       steps-1-2-3-4-residue = refl;
       steps-1-2-3-4-index = refl;
       steps-2-4-residue = refl;

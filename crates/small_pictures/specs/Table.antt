@@ -2,10 +2,9 @@
 use Prim.Native.Nat.{ℕ}
 use mathlib.Core.List.{List, [], _∷_}
 use mathlib.Core.Path.{_≡_}
-use Rattle.grid.specs.Neighbours.{edge-neighbours}
-use Rattle.grid.specs.Attributes.{attribute}
-use Rattle.tree.specs.Tree.{number-of-nodes, parents, attributes}
-use Rattle.calls.specs.Calls.{grey, opened-picture, residue-map, index-map}
+use lib.ListN.{length, replicate}
+use Rattle.calls.specs.Calls.{record-of, built, opened-picture, residue-map, index-map}
+use Rattle.calls.specs.declared.Built.the-variants.{Nodes}
 
 -- "P is one row: 10 30 20 50 10."
 abbrev pub P : List ℕ
@@ -17,9 +16,9 @@ Q = 9 ∷ 0 ∷ 0 ∷ 9 ∷ []
 
 pub record Starred : Type 0 where
   -- "P, area: parents 0 2 0 2 0, attributes 5 1 3 1 0, 4 nodes."
-  pub record-parents : parents 5 (edge-neighbours 5) (grey P) ≡ 0 ∷ 2 ∷ 0 ∷ 2 ∷ 0 ∷ []
-  pub record-attributes : attributes 5 (edge-neighbours 5) (attribute 5 5 1) (grey P) ≡ 5 ∷ 1 ∷ 3 ∷ 1 ∷ 0 ∷ []
-  pub record-nodes : number-of-nodes 5 (edge-neighbours 5) (grey P) ≡ 4
+  -- The record's other four parts are zero, and a building call that is lent 30 words answers the number.
+  pub tree-record : record-of 5 1 1 P ≡ 0 ∷ 2 ∷ 0 ∷ 2 ∷ 0 ∷ 5 ∷ 1 ∷ 3 ∷ 1 ∷ 0 ∷ replicate 20 0
+  pub tree-nodes : (lent : List ℕ) → length lent ≡ 30 → built 5 1 1 P lent ≡ Nodes 4
   -- "P, area, steps 1 2 3 4: residue 0 10 10 30 0, index 0 4 4 2 0."
   pub steps-1-2-3-4-residue : residue-map 5 1 1 (1 ∷ 2 ∷ 3 ∷ 4 ∷ []) P ≡ 0 ∷ 10 ∷ 10 ∷ 30 ∷ 0 ∷ []
   pub steps-1-2-3-4-index : index-map 5 1 1 (1 ∷ 2 ∷ 3 ∷ 4 ∷ []) P ≡ 0 ∷ 4 ∷ 4 ∷ 2 ∷ 0 ∷ []
