@@ -9,10 +9,10 @@ use Rattle.grid.specs.Neighbours.{edge-neighbours}
 use Rattle.grid.specs.Attributes.{attribute}
 use Rattle.grid.proofs.Attributes.{edge-symmetric, attribute-increasing, attribute-needs-pixel}
 use Rattle.grid.proofs.Whole.{grid-whole}
-use Rattle.opening.specs.Opening.{component-at, least-grey, Upward, at-least}
+use Rattle.opening.specs.Opening.{component-at, least-grey, Upward, at-least, Greatest}
 use Rattle.opening.specs.Node.{node}
 use Rattle.opening.proofs.Threshold.{at-least-up}
-use Rattle.opening.proofs.Greatest.{Greatest, opened-greatest, opened-goes}
+use Rattle.opening.proofs.Greatest.{opened-greatest, opened-goes}
 use Rattle.tree.specs.Tree.{climbed}
 use Rattle.tree.proofs.Climb.{climbed-opened}
 use Rattle.calls.specs.Calls.{opening}

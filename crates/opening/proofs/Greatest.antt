@@ -2,23 +2,18 @@
 -- exactly if it is not kept and not at the least grey. Neither asks anything of the adjacency.
 use Prim.Native.Nat.{ℕ, _≤_, _<_}
 use mathlib.Core.Bool.{true, false}
-use mathlib.Core.Logic.{_↔_, _⊎_, inl, inr, ⊎-elim}
+use mathlib.Core.Logic.{_↔_, inl, inr, ⊎-elim}
 use mathlib.Core.Path.{_≡_}
 use native.Mathlib.Omega.{arith}
 use Rattle.sets.specs.Sets.{member}
 use Rattle.sets.proofs.Laws.{some-in-elim}
 use Rattle.sets.proofs.Tests.{decided, clash, is-false, le-or-lt}
 use Rattle.connected.specs.Component.{Adjacency}
-use Rattle.opening.specs.Opening.{component-at, least-grey, Keeps, Upward, Needs-pixel, opened-by}
+use Rattle.opening.specs.Opening.{component-at, least-grey, Keeps, Upward, Needs-pixel, opened-by, Greatest}
 use Rattle.opening.specs.Node.{node}
 use Rattle.opening.proofs.Components.{level-mono, component-start}
 use Rattle.opening.proofs.Levels.{least-grey-le}
 use Rattle.opening.proofs.Opened.{opened-ge, opened-above, opened-kept}
-
--- v is the greatest h that passes, or the least grey if none does
-abbrev pub Greatest : (ℕ → Type 0) → ℕ → ℕ → Type 0
-Greatest passes least v =
-    (passes v × ((h : ℕ) → passes h → h ≤ v)) ⊎ (((h : ℕ) → ¬ passes h) × (v ≡ least))
 
 module _ (n : ℕ) (adj : Adjacency) (keeps : Keeps) (up : Upward n keeps) (g : ℕ → ℕ) (p : ℕ) where
   -- the component of p at h is kept

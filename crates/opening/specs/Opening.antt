@@ -3,6 +3,7 @@
 use Prim.Native.Nat.{ℕ, zero, suc, _+_, _-_, _≤_, min}
 use mathlib.Core.Bool.{Bool, true, cond}
 use mathlib.Core.List.{List}
+use mathlib.Core.Logic.{_⊎_}
 use mathlib.Core.Path.{_≡_}
 use lib.Dec.{leb}
 use Rattle.sets.specs.Sets.{Positions, Inside, some-in, member}
@@ -55,6 +56,11 @@ opened-by n adj keeps g p =
     (least-grey n g)
     (g p - least-grey n g)
     (λ (h : ℕ). keeps (member (component-at n adj g h p)))
+
+-- v is "the greatest h" that passes among all levels, or the least grey "if there is none": what the opened grey is proved to be
+abbrev pub Greatest : (ℕ → Type 0) → ℕ → ℕ → Type 0
+Greatest passes least v =
+    (passes v × ((h : ℕ) → passes h → h ≤ v)) ⊎ (((h : ℕ) → ¬ passes h) × (v ≡ least))
 
 -- the opening at the threshold t; "threshold 0 changes nothing"
 abbrev pub opened : ℕ → Adjacency → (Positions → ℕ) → ℕ → (ℕ → ℕ) → ℕ → ℕ
