@@ -1,6 +1,6 @@
 -- The pass over the own pixels, in order of position: what holds when the pixels below i have been taken, one more of them, and the
 -- end. Assumes nothing.
-use Prim.Native.Nat.{ℕ, _+_, _*_, _≤_, _<_}
+use Prim.Native.Nat.{ℕ, _+_, _*_, _-_, _≤_, _<_}
 use mathlib.Core.Bool.{Bool, true, false, cond, _&&_, _||_}
 use mathlib.Core.List.{List}
 use mathlib.Core.Logic.{⊎-elim}
@@ -10,6 +10,7 @@ use native.Mathlib.Omega.{arith}
 use lib.Dec.{eqb, ltb}
 use lib.ListN.{getD, length, set, length-set, replicate, length-replicate, getD-replicate}
 use lib.Seq.{getD-set-same, getD-set-other}
+use borrow.Rule.Slice.PartMut.{put-same}
 use borrow.Author.Tests.{eqb-true, eqb-false, eq-eqb, ne-eqb, ltb-true, lt-ltb, le-ltb}
 use Rattle.sets.specs.Sets.{Positions, count}
 use Rattle.sets.proofs.Tests.{decided, same-truth, and-left, and-right, and-both, or-cases, or-left, or-right}
@@ -23,9 +24,10 @@ use Rattle.flood.proofs.Tables.{count-next, counts-more}
 use Rattle.max_tree.specs.Accumulators.{nothing, single, combined, gathered}
 use Rattle.max_tree.specs.Branches.{owned}
 use Rattle.flood.specs.Flooding.{parent-of}
-use Rattle.max_tree.specs.Passes.{first-of, held-of, root-of, lowest-of, lowest-own-pixel, node-level, Blank, Noting, unmet, noted-at, counted-at, Owned}
+use Rattle.max_tree.specs.Passes.{first-of, held-of, root-of, lowest-of, lowest-own-pixel, node-level, Blank, Noting, noted-at, counted-at, Owned}
 use Rattle.max_tree.proofs.Accumulators.{single-small, gathered-small, bound-small, gathered-with}
 use Rattle.max_tree.proofs.Stores.{root-within}
+use Rattle.max_tree.proofs.Parts.{lent, returned, lent-long, lent-read, stored-in}
 
 -- the positions below i with the label r
 abbrev pub below : (ℕ → ℕ) → ℕ → ℕ → Positions
@@ -98,13 +100,16 @@ pub record Owning (w a : ℕ) (picture ws₀ ws counts : List ℕ) (i : ℕ) : T
   pub nodes : (l : ℕ) → l < 256 → getD counts l 0 ≡ count i (λ (q : ℕ). eqb (node-level picture ws₀ q) l)
 
 -- what is noted of one pixel
-pub noted-met : (picture : List ℕ) (q r : ℕ) (ws counts : List ℕ) → (first-of (length picture) ws r ≡ length picture → ⊥) → (ws ≡ noted-at picture q r ws) × (counts ≡ counted-at picture q r ws counts)
-noted-met picture q r ws counts ne = rw (ne-eqb (first-of (length picture) ws r) (length picture) ne) (refl, refl)
+pub noted-met : (picture : List ℕ) (q r : ℕ) (part counts : List ℕ) → (getD part r 0 ≡ length picture → ⊥) → (part ≡ noted-at picture q r part) × (counts ≡ counted-at picture q r part counts)
+noted-met picture q r part counts ne = rw (ne-eqb (getD part r 0) (length picture) ne) (refl, refl)
 
-pub noted-unmet : (picture : List ℕ) (q r : ℕ) (ws counts : List ℕ) → first-of (length picture) ws r ≡ length picture → (set ws (3 * length picture + r) q ≡ noted-at picture q r ws) × (set counts (grey picture q) (getD counts (grey picture q) 0 + 1) ≡ counted-at picture q r ws counts)
-noted-unmet picture q r ws counts e = rw (eq-eqb (first-of (length picture) ws r) (length picture) e) (refl, refl)
+pub noted-unmet : (picture : List ℕ) (q r : ℕ) (part counts : List ℕ) → getD part r 0 ≡ length picture → (set part r q ≡ noted-at picture q r part) × (set counts (grey picture q) (getD counts (grey picture q) 0 + 1) ≡ counted-at picture q r part counts)
+noted-unmet picture q r part counts e = rw (eq-eqb (getD part r 0) (length picture) e) (refl, refl)
 
 module _ (w a : ℕ) (picture ws₀ : List ℕ) (start : Blank w a picture ws₀) where
+  abbrev n : ℕ
+  n = length picture
+
   pub owning-none : Owning w a picture ws₀ ws₀ (replicate 256 0) 0
   unfolding count
   owning-none =
@@ -141,7 +146,7 @@ module _ (w a : ℕ) (picture ws₀ : List ℕ) (start : Blank w a picture ws₀
       (gathered-small a (length picture) (single a w) (below (root-of picture ws₀) i r) (λ q c. single-small a w q (start .short q c))))
 
   -- one pixel more, i, with the node root r: first its accumulator, then the note
-  module _ (ws counts : List ℕ) (i r y : ℕ) (b : i < length picture) (O : Owning w a picture ws₀ ws counts i) (is : r ≡ root-of picture ws₀ i) (new : y ≡ combined a (held-of (length picture) ws r) (single a w i)) where
+  module _ (ws counts : List ℕ) (i r : ℕ) (b : i < length picture) (O : Owning w a picture ws₀ ws counts i) (is : r ≡ root-of picture ws₀ i) where
     in-range : r < length picture
     in-range = rw is (root-within picture ws₀ i b (start .within i b))
 
@@ -151,18 +156,43 @@ module _ (w a : ℕ) (picture ws₀ : List ℕ) (start : Blank w a picture ws₀
     held-place : 4 * length picture + r < length ws
     held-place = omega (arith, in-range, O .words, start .sized .words)
 
+    abbrev y : ℕ
+    y = combined a (held-of (length picture) ws r) (single a w i)
+
     abbrev ws₁ : List ℕ
     ws₁ = set ws (4 * length picture + r) y
+
+    -- part 5 is lent and comes back with the accumulator
+    high : 5 * n ≤ length ws
+    high = omega (arith, O .words, start .sized .words)
+
+    pub gather-asked : (r < length (lent (4 * n) (5 * n) ws)) × (getD (lent (4 * n) (5 * n) ws) r 0 ≤ 16777215)
+    gather-asked = (
+      rw (lent-long (4 * n) (5 * n) ws high) (omega (arith, in-range)),
+      rw (lent-read (4 * n) (5 * n) ws high r (omega (arith, in-range))) (owning-small ws counts i r O in-range),
+    )
+
+    pub gathered-one : (part : List ℕ) (own : ℕ) → own ≡ single a w i → part ≡ set (lent (4 * n) (5 * n) ws) r (combined a (getD (lent (4 * n) (5 * n) ws) r 0) own) → returned (4 * n) (5 * n) ws part ≡ ws₁
+    gathered-one part own e f =
+        let inside : 4 * n + r < 5 * n = omega (arith, in-range) in
+        rw (f, e, lent-read (4 * n) (5 * n) ws high r inside) (stored-in (4 * n) (5 * n) ws high r y inside)
+
+    -- then part 4 is lent
+    high₁ : 4 * n ≤ length ws₁
+    high₁ = rw (length-set ws (4 * n + r) y) (omega (arith, O .words, start .sized .words))
+
+    noted-read : getD (lent (3 * n) (4 * n) ws₁) r 0 ≡ first-of n ws₁ r
+    noted-read = lent-read (3 * n) (4 * n) ws₁ high₁ r (omega (arith, in-range))
 
     first-same : (s : ℕ) → s < length picture → first-of (length picture) ws₁ s ≡ first-of (length picture) ws s
     first-same s c = getD-set-other ws (4 * length picture + r) (3 * length picture + s) y 0 (λ z. omega arith)
 
-    pub note-asked : Noting picture i r ws₁ counts
-    note-asked =
+    pub note-asked : (l : List ℕ) → l ≡ ws₁ → Noting picture i r (lent (3 * n) (4 * n) l) counts
+    note-asked l e =
         record {
-          sized = record { words = length-set ws (4 * length picture + r) y ∙ O .words ∙ start .sized .words; small = start .sized .small };
+          small = start .sized .small;
           within = b;
-          root = in-range;
+          root = rw (e, lent-long (3 * n) (4 * n) ws₁ high₁) (omega (arith, in-range));
           level = start .bytes i;
           wide = O .wide;
           few = omega (arith, O .nodes (grey picture i) (start .bytes i), count-le i (λ (q : ℕ). eqb (node-level picture ws₀ q) (grey picture i)));
@@ -174,7 +204,6 @@ module _ (w a : ℕ) (picture ws₀ : List ℕ) (start : Blank w a picture ws₀
         (λ z.
         ap (held-of (length picture) ws₁) z
         ∙ getD-set-same ws (4 * length picture + r) y 0 held-place
-        ∙ new
         ∙ ap (λ (k : ℕ). combined a k (single a w i)) (O .held r in-range)
         ∙ sym
         (gathered-with
@@ -208,14 +237,17 @@ module _ (w a : ℕ) (picture ws₀ : List ℕ) (start : Blank w a picture ws₀
     abbrev m : ℕ
     m = lowest-of picture ws₀ (root-of picture ws₀ i)
 
+    abbrev unnoted : Bool
+    unnoted = eqb (first-of (length picture) ws₁ r) (length picture)
+
     -- nothing is noted exactly where i is the lowest own pixel
-    fresh : unmet picture r ws₁ ≡ lowest-own-pixel picture ws₀ i
+    fresh : unnoted ≡ lowest-own-pixel picture ws₀ i
     fresh =
         same-truth
-        (unmet picture r ws₁)
+        unnoted
         (lowest-own-pixel picture ws₀ i)
         (λ e.
-        let n : first-of (length picture) ws r ≡ length picture =
+        let free : first-of (length picture) ws r ≡ length picture =
         sym (first-same r in-range) ∙ eqb-true (first-of (length picture) ws₁ r) (length picture) e in
         eq-eqb
         m
@@ -246,7 +278,7 @@ module _ (w a : ℕ) (picture ws₀ : List ℕ) (start : Blank w a picture ws₀
     level-other e = ap (λ (t : Bool). cond t (grey picture i) 256) e
 
     -- a node that is met for the first time
-    module _ (e : unmet picture r ws₁ ≡ true) where
+    module _ (e : unnoted ≡ true) where
       abbrev ws₂ : List ℕ
       ws₂ = set ws₁ (3 * length picture + r) i
 
@@ -315,7 +347,7 @@ module _ (w a : ℕ) (picture ws₀ : List ℕ) (start : Blank w a picture ws₀
           }
 
     -- a node that was met before
-    module _ (e : unmet picture r ws₁ ≡ false) where
+    module _ (e : unnoted ≡ false) where
       not-first : lowest-own-pixel picture ws₀ i ≡ false
       not-first = sym fresh ∙ e
 
@@ -357,13 +389,15 @@ module _ (w a : ℕ) (picture ws₀ : List ℕ) (start : Blank w a picture ws₀
                 omega (arith, O .nodes l c, count-next i (λ (q : ℕ). eqb (node-level picture ws₀ q) l));
           }
 
-    pub owning-more : (l c : List ℕ) → l ≡ noted-at picture i r ws₁ → c ≡ counted-at picture i r ws₁ counts → Owning w a picture ws₀ l c (i + 1)
-    owning-more l c e f =
-        rw (e, f)
+    pub owning-more : (l part c : List ℕ) → l ≡ ws₁ → part ≡ noted-at picture i r (lent (3 * n) (4 * n) l)
+        → c ≡ counted-at picture i r (lent (3 * n) (4 * n) l) counts → Owning w a picture ws₀ (returned (3 * n) (4 * n) l part) c (i + 1)
+    owning-more l part c d e f =
+        rw (e, f, d, noted-read)
         (⊎-elim
-        (λ t. rw t (met-first t))
-        (λ t. rw t (met-again t))
-        (decided (unmet picture r ws₁)))
+        (λ t. rw (t, stored-in (3 * n) (4 * n) ws₁ high₁ r i (omega (arith, in-range))) (met-first t))
+        (λ t.
+        rw t (subst (λ (l : List ℕ). Owning w a picture ws₀ l counts (i + 1)) (sym (put-same (3 * n) (4 * n - 3 * n) ws₁)) (met-again t)))
+        (decided unnoted))
 
   first-lowest : (ws counts : List ℕ) → Owning w a picture ws₀ ws counts (length picture) → (q : ℕ) → q < length picture → first-of (length picture) ws (root-of picture ws₀ q) ≡ lowest-of picture ws₀ (root-of picture ws₀ q)
   unfolding lowest

@@ -1,23 +1,50 @@
--- A part of a list that is lent and comes back filled with one word: the four parts of the scratch, and the parts that are blank before
--- the passes. Assumes nothing.
+-- A part of a list that is lent and comes back, with words stored in it or filled with one word: the four parts of the scratch, and the
+-- parts that are blank before the passes. Assumes nothing.
 use Prim.Native.Nat.{ℕ, _+_, _*_, _-_, _≤_, _<_}
 use mathlib.Core.List.{List, _++_, append-assoc, append-nil}
 use mathlib.Core.Path.{_≡_, refl, sym, ap, _∙_}
 use native.Mathlib.Omega.{arith}
-use lib.ListN.{getD, length, take, drop, replicate, length-append, length-replicate, length-drop, getD-replicate, replicate-append-replicate, List·getD-append, drop-of-length-le}
-use lib.Seq.{length-take-le, getD-take, getD-append-add, take-at, drop-drop, drop-append-add}
-use borrow.Rule.Slice.PartMut.{midOf, putMid, mid-len, post-is}
+use lib.ListN.{getD, length, set, take, drop, replicate, length-set, length-append, length-replicate, length-drop, getD-replicate, replicate-append-replicate, List·getD-append, drop-of-length-le}
+use lib.Seq.{length-take-le, getD-take, getD-drop, getD-append-add, take-at, drop-drop, drop-append-add, take-set-lt, take-set-le, drop-set-lt, drop-set-add}
+use borrow.Rule.Slice.PartMut.{midOf, putMid, mid-len, post-is, set-mid-at}
 use Rattle.max_tree.specs.Accumulators.{nothing}
 use Rattle.max_tree.specs.Passes.{Blanked}
+
+-- the part from a up to e as it is lent, and the list with what comes back in its place
+abbrev pub lent : ℕ → ℕ → List ℕ → List ℕ
+lent a e xs = midOf a (e - a) xs
+
+abbrev pub returned : ℕ → ℕ → List ℕ → List ℕ → List ℕ
+returned a e xs part = putMid a (e - a) xs part
+
+module _ (a e : ℕ) (xs : List ℕ) (high : e ≤ length xs) where
+  pub lent-long : length (lent a e xs) ≡ e - a
+  lent-long = mid-len a e xs high
+
+  pub lent-read : (i : ℕ) → a + i < e → getD (lent a e xs) i 0 ≡ getD xs (a + i) 0
+  lent-read i l = getD-take (e - a) (drop a xs) i 0 (omega arith) ∙ getD-drop a xs i 0
+
+  -- a store to the part is one to the list
+  pub stored-in : (i v : ℕ) → a + i < e → returned a e xs (set (lent a e xs) i v) ≡ set xs (a + i) v
+  stored-in i v l = set-mid-at a (e - a) i xs v (rw lent-long (omega arith))
+
+-- and so are two
+pub two-stored-in : (a e : ℕ) (xs : List ℕ) → e ≤ length xs → (i u j v : ℕ) → a + i < e → a + j < e → returned a e xs (set (set (lent a e xs) i u) j v) ≡ set (set xs (a + i) u) (a + j) v
+two-stored-in a e xs high i u j v l m =
+    let here : i < e - a = omega arith in
+    let after : a ≤ a + i = omega arith in
+    rw
+    (drop-set-add a xs i u, take-set-lt (e - a) (drop a xs) i u here, drop-set-lt (e - a) (drop a xs) i u here, take-set-le a xs (a + i) u after)
+    at (stored-in a e (set xs (a + i) u) (rw (length-set xs (a + i) u) high) j v m)
 
 -- the list with v in the entries from a up to e
 abbrev pub filled : ℕ → ℕ → ℕ → List ℕ → List ℕ
 filled a e v xs = take a xs ++ (replicate (e - a) v ++ drop e xs)
 
 module _ (a e v : ℕ) (xs : List ℕ) (low : a ≤ e) (high : e ≤ length xs) where
-  -- a part that is lent comes back filled
-  pub part-filled : {ys part : List ℕ} → ys ≡ xs → part ≡ replicate (length (midOf a (e - a) ys)) v → putMid a (e - a) ys part ≡ filled a e v xs
-  part-filled same all = rw (all, same, mid-len a e xs high, post-is a e xs low) refl
+  -- the part comes back filled
+  pub part-filled : {ys part : List ℕ} → ys ≡ xs → part ≡ replicate (length (lent a e ys)) v → returned a e ys part ≡ filled a e v xs
+  part-filled same all = rw (all, same, lent-long a e xs high, post-is a e xs low) refl
 
   front : length (take a xs) ≡ a
   front = length-take-le a xs (omega arith)
@@ -58,7 +85,7 @@ filled-on a b e v xs low on high =
     ∙ ap (λ (l : List ℕ). take a xs ++ (l ++ drop e xs)) (replicate-append-replicate (b - a) (e - b) v)
     ∙ ap (λ (k : ℕ). take a xs ++ (replicate k v ++ drop e xs)) times)
 
-pub filled-next : (a b e v : ℕ) (xs : List ℕ) → a ≤ b → b ≤ e → e ≤ length xs → {ys part : List ℕ} → ys ≡ filled a b v xs → part ≡ replicate (length (midOf b (e - b) ys)) v → putMid b (e - b) ys part ≡ filled a e v xs
+pub filled-next : (a b e v : ℕ) (xs : List ℕ) → a ≤ b → b ≤ e → e ≤ length xs → {ys part : List ℕ} → ys ≡ filled a b v xs → part ≡ replicate (length (lent b e ys)) v → returned b e ys part ≡ filled a e v xs
 filled-next a b e v xs low on high before all =
     part-filled b e v (filled a b v xs) on (rw (filled-long a b v xs low (omega arith)) high) before all ∙ filled-on a b e v xs low on high
 

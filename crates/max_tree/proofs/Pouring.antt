@@ -12,10 +12,9 @@ use lib.Seq.{getD-set-same, getD-set-other}
 use borrow.Author.Tests.{eqb-true, eqb-false, eq-eqb, ne-eqb, leb-true, le-leb, ltb-true, lt-ltb}
 use Rattle.sets.specs.Sets.{Positions}
 use Rattle.sets.specs.Gather.{first-in}
-use Rattle.sets.proofs.Tests.{clash, is-false, same-truth, and-left, and-right, and-both, or-cases, or-left, or-right, le-or-lt}
+use Rattle.sets.proofs.Tests.{decided, clash, is-false, same-truth, and-left, and-right, and-both, or-cases, or-left, or-right, le-or-lt}
 use Rattle.sets.proofs.Gather.{gather-ext, first-in-le, first-in-holds}
 use Rattle.connected.specs.Component.{Adjacency, Symmetric}
-use Rattle.opening.proofs.Levels.{cond-case}
 use Rattle.tree.specs.Forest.{Forest, Node-root, node-root}
 use Rattle.tree.proofs.Forest.{node-root-self, node-root-is}
 use Rattle.causes.proofs.Lists.{length-two}
@@ -29,6 +28,7 @@ use Rattle.max_tree.specs.Passes.{word-of, roots, Own-held, Pour, poured
 use Rattle.max_tree.proofs.Accumulators.{gathered-small, bound-small, gathered-union}
 use Rattle.max_tree.proofs.Branches.{poured-all, poured-none, poured-own, poured-other, poured-apart, poured-more}
 use Rattle.max_tree.proofs.Stores.{read-one, read-two, read-else}
+use Rattle.max_tree.proofs.Parts.{lent, returned, lent-long, lent-read, stored-in, two-stored-in}
 use Rattle.max_tree.proofs.Listing.{listed-rises, listed-apart}
 
 -- the place of c in a list of m pixels, m if it is not there
@@ -254,27 +254,21 @@ module _ (a n m : ℕ) (adj : Adjacency) (symm : Symmetric adj) (g par ord : ℕ
         (poured g par done r)
         (λ x c. poured-other n adj symm g par forest done more q q-within grown r x c (λ z l. other z))))
 
--- what one addition leaves: at the root of the tree, and at another root
-pub poured-last : (a n q : ℕ) (ws : List ℕ) (y : ℕ) → parent-of ws q ≡ q → y ≡ measured a (word-of n ws q) → set ws (n + q) y ≡ poured-at a n q ws
-poured-last a n q ws y own e = rw (eq-eqb (parent-of ws q) q own) (ap (set ws (n + q)) e)
+-- what one addition leaves of part 2: at the root of the tree, and at another root
+pub poured-last : (a q p : ℕ) (part : List ℕ) (y : ℕ) → p ≡ q → y ≡ measured a (getD part q 0) → set part q y ≡ poured-at a q p part
+poured-last a q p part y own e = rw (eq-eqb p q own) (ap (set part q) e)
 
--- the parent's word is there
-pub up-room : (a n q : ℕ) (ws : List ℕ) (y : ℕ) → Pour a n q ws → n + parent-of ws q < length (set ws (n + q) y)
-up-room a n q ws y pre = rw (length-set ws (n + q) y) (omega (arith, pre .parent, pre .sized .words))
-
-module _ (a n q : ℕ) (ws : List ℕ) (y : ℕ) (ne : parent-of ws q ≡ q → ⊥) where
+module _ (a q p : ℕ) (part : List ℕ) (y : ℕ) (ne : p ≡ q → ⊥) where
   -- the parent's word, once that of q is written
-  pub up-read : word-of n (set ws (n + q) y) (parent-of ws q) ≡ word-of n ws (parent-of ws q)
-  up-read = getD-set-other ws (n + q) (n + parent-of ws q) y 0 (λ z. ne (omega arith))
+  pub up-read : getD (set part q y) p 0 ≡ getD part p 0
+  up-read = getD-set-other part q p y 0 ne
 
-  pub poured-up : (z : ℕ) → y ≡ measured a (word-of n ws q) → z ≡ combined a (word-of n (set ws (n + q) y) (parent-of ws q)) (word-of n ws q) → set (set ws (n + q) y) (n + parent-of ws q) z ≡ poured-at a n q ws
+  pub poured-up : (z : ℕ) → y ≡ measured a (getD part q 0) → z ≡ combined a (getD (set part q y) p 0) (getD part q 0) → set (set part q y) p z ≡ poured-at a q p part
   poured-up z e f =
       rw
-      (ne-eqb (parent-of ws q) q ne)
-      (ap (λ (k : ℕ). set (set ws (n + q) k) (n + parent-of ws q) z) e
-      ∙ ap
-      (set (set ws (n + q) (measured a (word-of n ws q))) (n + parent-of ws q))
-      (f ∙ ap (λ (k : ℕ). combined a k (word-of n ws q)) up-read))
+      (ne-eqb p q ne)
+      (ap (λ (k : ℕ). set (set part q k) p z) e
+      ∙ ap (set (set part q (measured a (getD part q 0))) p) (f ∙ ap (λ (k : ℕ). combined a k (getD part q 0)) up-read))
 
 pub record Pouring (a : ℕ) (picture ws₀ : List ℕ) (m : ℕ) (ws : List ℕ) (i : ℕ) : Type 0 where
   pub top : i ≤ m
@@ -362,7 +356,7 @@ module _ (a : ℕ) (picture ws₀ : List ℕ) (m : ℕ) (start : Pourable a pict
 
   -- one place more, that of the pixel q
   module _ (ws : List ℕ) (i q : ℕ) (pos : 0 < i) (P : Pouring a picture ws₀ m ws i) (is : q ≡ ord (i - 1)) where
-    within : q < n
+    pub within : q < n
     within = rw is (start .order .within (i - 1) (omega (arith, P .top)))
 
     up-within : par q < n
@@ -412,23 +406,32 @@ module _ (a : ℕ) (picture ws₀ : List ℕ) (m : ℕ) (start : Pourable a pict
         (λ dark. small (par q) up-within up-root (up-not-taken dark))
         (root-last q within root)
 
-    pub pour-asked : Pour a n q ws
+    high : 2 * n ≤ length ws
+    high = omega (arith, words)
+
+    held-long : length (lent n (2 * n) ws) ≡ n
+    held-long = rw (lent-long n (2 * n) ws high) (omega arith)
+
+    held-read : (r : ℕ) → r < n → getD (lent n (2 * n) ws) r 0 ≡ word-of n ws r
+    held-read r b = lent-read n (2 * n) ws high r (omega arith)
+
+    pub pour-asked : Pour a q (parent-of ws q) (lent n (2 * n) ws)
     pour-asked =
-        record {
-          sized = record { words = words; small = start .sized .small };
-          within = within;
-          parent = rw same-parent up-within;
-          small = small q within root not-taken;
-          small-parent = rw same-parent small-up;
+        rw same-parent
+        (record {
+          within = rw held-long within;
+          parent = rw held-long up-within;
+          small = rw (held-read q within) (small q within root not-taken);
+          small-parent = rw (held-read (par q) up-within) small-up;
           ends =
               rw
-              (waiting q within root not-taken)
+              (held-read q within, waiting q within root not-taken)
               (start .ends
               (poured g par (taken m ord i) q)
               q
               within
               (poured-own g par (taken m ord i) q q (eqb-true (node-root g par q) q root)));
-        }
+        })
 
     abbrev measure : ℕ
     measure = measured a (word-of n ws q)
@@ -515,19 +518,24 @@ module _ (a : ℕ) (picture ws₀ : List ℕ) (m : ℕ) (start : Pourable a pict
               (equal-or-not q r);
         }
 
-    step : Pouring a picture ws₀ m (cond (eqb (par q) q) (set ws (n + q) measure) (set (set ws (n + q) measure) (n + par q) sum)) (i - 1)
-    step =
-        cond-case
+    pub pouring-more : (part : List ℕ) → part ≡ poured-at a q (parent-of ws q) (lent n (2 * n) ws) → Pouring a picture ws₀ m (returned n (2 * n) ws part) (i - 1)
+    pouring-more part e =
+        let here : n + q < 2 * n = omega (arith, within) in
+        let there : n + par q < 2 * n = omega (arith, up-within) in
+        rw
+        (e, same-parent, held-read q within, held-read (par q) up-within)
+        (⊎-elim
+        (λ t.
+        rw t
+        (subst
         (λ (l : List ℕ). Pouring a picture ws₀ m l (i - 1))
-        (eqb (par q) q)
-        (λ e. step-last (eqb-true (par q) q e))
-        (λ e.
-        let apart : par q ≡ q → ⊥ = eqb-false (par q) q e in
-        step-up apart (⊎-elim (λ own. absurd (apart own)) (λ dark. dark) (root-last q within root)))
-
-    pub pouring-more : Pouring a picture ws₀ m (poured-at a n q ws) (i - 1)
-    pouring-more =
-        subst
-        (λ (p : ℕ). Pouring a picture ws₀ m (cond (eqb p q) (set ws (n + q) measure) (set (set ws (n + q) measure) (n + p) (combined a (word-of n ws p) (word-of n ws q)))) (i - 1))
-        (sym same-parent)
-        step
+        (sym (stored-in n (2 * n) ws high q measure here))
+        (step-last (eqb-true (par q) q t))))
+        (λ t.
+        let apart : par q ≡ q → ⊥ = eqb-false (par q) q t in
+        rw t
+        (subst
+        (λ (l : List ℕ). Pouring a picture ws₀ m l (i - 1))
+        (sym (two-stored-in n (2 * n) ws high q measure (par q) sum here there))
+        (step-up apart (⊎-elim (λ own. absurd (apart own)) (λ dark. dark) (root-last q within root)))))
+        (decided (eqb (par q) q)))

@@ -62,26 +62,26 @@ pub record Blank (w a : ℕ) (picture ws : List ℕ) : Type 0 where
   pub unnoted : (r : ℕ) → r < length picture → first-of (length picture) ws r ≡ length picture
   pub blank : (r : ℕ) → r < length picture → held-of (length picture) ws r ≡ nothing a
 
--- q and the root r of its node are pixels, and the count of its level is small
-pub record Noting (picture : List ℕ) (q r : ℕ) (ws counts : List ℕ) : Type 0 where
-  pub sized : Sized (length picture) ws
+-- q and the root r of its node are pixels, part 4 has a word for r, and the count of the level of q is small
+pub record Noting (picture : List ℕ) (q r : ℕ) (part counts : List ℕ) : Type 0 where
+  pub small : length picture ≤ 1048576
   pub within : q < length picture
-  pub root : r < length picture
+  pub root : r < length part
   pub level : grey picture q < 256
   pub wide : length counts ≡ 256
   pub few : getD counts (grey picture q) 0 ≤ length picture
 
 -- no own pixel of the node whose root is r is noted
 abbrev pub unmet : List ℕ → ℕ → List ℕ → Bool
-unmet picture r ws = eqb (first-of (length picture) ws r) (length picture)
+unmet picture r part = eqb (getD part r 0) (length picture)
 
--- the workspace and the counts once q is noted as the first own pixel of the node whose root is r, unless one is noted
+-- part 4 and the counts once q is noted as the first own pixel of the node whose root is r, unless one is noted
 abbrev pub noted-at : List ℕ → ℕ → ℕ → List ℕ → List ℕ
-noted-at picture q r ws = cond (unmet picture r ws) (set ws (3 * length picture + r) q) ws
+noted-at picture q r part = cond (unmet picture r part) (set part r q) part
 
 abbrev pub counted-at : List ℕ → ℕ → ℕ → List ℕ → List ℕ → List ℕ
-counted-at picture q r ws counts =
-    cond (unmet picture r ws) (set counts (grey picture q) (getD counts (grey picture q) 0 + 1)) counts
+counted-at picture q r part counts =
+    cond (unmet picture r part) (set counts (grey picture q) (getD counts (grey picture q) 0 + 1)) counts
 
 -- the lowest own pixel of each node, and the accumulator of its own pixels; and how many nodes each level has
 pub record Owned (w a : ℕ) (picture ws ws' counts : List ℕ) : Type 0 where
@@ -170,25 +170,21 @@ pub record Recorded (picture ws ws' : List ℕ) (nodes : ℕ) : Type 0 where
   pub order : Listed (length picture) nodes (grey picture) (lowest-own-pixel picture ws) (order-of (length picture) ws')
   pub number : nodes ≡ count (length picture) (lowest-own-pixel picture ws)
 
--- q and its parent word are pixels, and their accumulators are small; that of q has its two ends in order
-pub record Pour (a n q : ℕ) (ws : List ℕ) : Type 0 where
-  pub sized : Sized n ws
-  pub within : q < n
-  pub parent : parent-of ws q < n
-  pub small : word-of n ws q ≤ 16777215
-  pub small-parent : word-of n ws (parent-of ws q) ≤ 16777215
-  pub ends : In-order a (word-of n ws q)
+-- part 2 has a word for q and for its parent p, which are small accumulators; that of q has its two ends in order
+pub record Pour (a q p : ℕ) (part : List ℕ) : Type 0 where
+  pub within : q < length part
+  pub parent : p < length part
+  pub small : getD part q 0 ≤ 16777215
+  pub small-parent : getD part p 0 ≤ 16777215
+  pub ends : In-order a (getD part q 0)
 
--- the workspace once the accumulator of q is added to that of its parent and its attribute stands in its place
+-- part 2 once the accumulator of q is added to that of its parent p and its attribute stands in its place
 abbrev pub poured-at : ℕ → ℕ → ℕ → List ℕ → List ℕ
-poured-at a n q ws =
+poured-at a q p part =
     cond
-    (eqb (parent-of ws q) q)
-    (set ws (n + q) (measured a (word-of n ws q)))
-    (set
-    (set ws (n + q) (measured a (word-of n ws q)))
-    (n + parent-of ws q)
-    (combined a (word-of n ws (parent-of ws q)) (word-of n ws q)))
+    (eqb p q)
+    (set part q (measured a (getD part q 0)))
+    (set (set part q (measured a (getD part q 0))) p (combined a (getD part p 0) (getD part q 0)))
 
 -- q is the root of its node
 abbrev pub roots : List ℕ → List ℕ → Positions

@@ -2,11 +2,12 @@
 // each node and part 5 the accumulator of its own pixels, both at the node's root; part 3 receives the representatives by rising level.
 ghost use mathlib.Core.Bool.{cond};
 ghost use mathlib.Core.Path.{_≡_};
-ghost use Prim.Native.Nat.{_<_};
+ghost use Prim.Native.Nat.{_≤_, _<_};
 ghost use lib.Dec.{eqb};
-ghost use lib.ListN.{length};
+ghost use lib.ListN.{length, getD, set};
 ghost use Rattle.flood.specs.Levels.{grey};
 ghost use Rattle.flood.specs.Calls.{Sized};
+ghost use Rattle.max_tree.specs.Accumulators.{combined};
 ghost use Rattle.max_tree.specs.Passes.{Blanked, Blank, Noting, noted-at, counted-at, Owned, Writable, written-at, tails-at, is-first, Recordable, Recorded, Pour, poured-at, Pourable, Poured};
 use crate::words;
 
@@ -33,18 +34,28 @@ fn node_root(picture: &[u8], q: usize, p: usize) -> usize
     q
 }
 
-// Notes q as the first own pixel of the node whose root is r, unless one is noted, and counts the node at its level.
-fn note_first(picture: &[u8], q: usize, r: usize, ws: &mut [u32], counts: &mut [usize; 256])
-    requires { ⌜ Noting (now picture) q r (now ws) (now counts) ⌝ }
-    ensures { λ _. ⌜ now (ws .exit) ≡ noted-at (now (picture .entry)) q r (now (ws .entry)) ⌝ }
-    ensures { λ _. ⌜ now (counts .exit) ≡ counted-at (now (picture .entry)) q r (now (ws .entry)) (now (counts .entry)) ⌝ }
+// Adds an own pixel, whose accumulator is given, to the node whose root is r, in part 5.
+fn gather(attribute: u32, r: usize, own: u32, part: &mut [u32])
+    requires { ⌜ r < length (now part) ⌝ }
+    requires { ⌜ getD (now part) r 0 ≤ 16777215 ⌝ }
+    requires { ⌜ own ≤ 16777215 ⌝ }
+    ensures { λ _. ⌜ now (part .exit) ≡ set (now (part .entry)) r (combined attribute (getD (now (part .entry)) r 0) own) ⌝ }
 {
-    let n = picture.len();
-    if ws[3 * n + r] as usize != n {
+    let held = words::combine(attribute, part[r], own);
+    part[r] = held;
+}
+
+// Notes q in part 4 as the first own pixel of the node whose root is r, unless one is noted, and counts the node at its level.
+fn note_first(picture: &[u8], q: usize, r: usize, part: &mut [u32], counts: &mut [usize; 256])
+    requires { ⌜ Noting (now picture) q r (now part) (now counts) ⌝ }
+    ensures { λ _. ⌜ now (part .exit) ≡ noted-at (now (picture .entry)) q r (now (part .entry)) ⌝ }
+    ensures { λ _. ⌜ now (counts .exit) ≡ counted-at (now (picture .entry)) q r (now (part .entry)) (now (counts .entry)) ⌝ }
+{
+    if part[r] as usize != picture.len() {
         return;
     }
     let l = picture[q] as usize;
-    ws[3 * n + r] = q as u32;
+    part[r] = q as u32;
     counts[l] = counts[l] + 1;
 }
 
@@ -59,9 +70,8 @@ pub fn own_pixels(picture: &[u8], width: usize, attribute: u32, ws: &mut [u32]) 
     while q < n {
         let r = node_root(picture, q, ws[q] as usize);
         let own = words::one(attribute, width, q);
-        let held = words::combine(attribute, ws[4 * n + r], own);
-        ws[4 * n + r] = held;
-        note_first(picture, q, r, ws, &mut counts);
+        gather(attribute, r, own, &mut ws[4 * n..5 * n]);
+        note_first(picture, q, r, &mut ws[3 * n..4 * n], &mut counts);
         q += 1;
     }
     counts
@@ -111,20 +121,19 @@ pub fn write_record(picture: &[u8], starts: [usize; 256], ws: &mut [u32]) -> usi
     nodes
 }
 
-// Adds the accumulator of the node of q, whose children are added to it, to that of its parent, and puts the node's attribute in its
-// place. The root of the tree has no parent.
-fn pour(n: usize, attribute: u32, q: usize, ws: &mut [u32])
-    requires { ⌜ Pour attribute n q (now ws) ⌝ }
-    ensures { λ _. ⌜ now (ws .exit) ≡ poured-at attribute n q (now (ws .entry)) ⌝ }
+// Adds the accumulator of the node of q, whose children are added to it, to that of its parent p, and puts the node's attribute in its
+// place, both in part 2. The root of the tree is its own parent.
+fn pour(attribute: u32, q: usize, p: usize, part: &mut [u32])
+    requires { ⌜ Pour attribute q p (now part) ⌝ }
+    ensures { λ _. ⌜ now (part .exit) ≡ poured-at attribute q p (now (part .entry)) ⌝ }
 {
-    let p = ws[q] as usize;
-    let held = ws[n + q];
-    ws[n + q] = words::measure(attribute, held);
+    let held = part[q];
+    part[q] = words::measure(attribute, held);
     if p == q {
         return;
     }
-    let sum = words::combine(attribute, ws[n + p], held);
-    ws[n + p] = sum;
+    let sum = words::combine(attribute, part[p], held);
+    part[p] = sum;
 }
 
 // The attribute of each node: every node is added to its parent, the brightest first.
@@ -137,6 +146,7 @@ pub fn descendants(picture: &[u8], attribute: u32, nodes: usize, ws: &mut [u32])
     while i > 0 {
         i -= 1;
         let q = ws[2 * n + i] as usize;
-        pour(n, attribute, q, ws);
+        let p = ws[q] as usize;
+        pour(attribute, q, p, &mut ws[n..2 * n]);
     }
 }

@@ -1,12 +1,11 @@
 -- `max_tree::passes::descendants` meets its contract. Invariant: the places from i on have been taken. Assumes nothing.
-use Prim.Native.Nat.{ℕ, _-_, _+_, _*_}
-use mathlib.Core.List.{List}
-use mathlib.Core.Path.{_≡_, subst, sym}
+use Prim.Native.Nat.{_-_, _+_, _*_}
+use mathlib.Core.Path.{_≡_}
 use lib.ListN.{length, getD}
 use Rattle.flood.specs.Flooding.{order-of}
-use Rattle.max_tree.proofs.Pouring.{Pouring, pouring-none, pour-asked, pouring-more, pouring-end}
-use borrow.Author.Needs.{needs}
+use Rattle.max_tree.proofs.Pouring.{Pouring, pouring-none, within, pour-asked, pouring-more, pouring-end}
 use native.Mathlib.Omega.{arith}
+use borrow.Author.Needs.{needs}
 use Rattle.max_tree.proofs.passes.descendants.Statement.{statement}
 use Rattle.max_tree.proofs.passes.descendants.Tie as tie
 
@@ -15,6 +14,9 @@ Inv-loop picture attribute nodes ws₀ n i₀ ws i = Pouring attribute picture w
 
 abbrev μ-loop : tie.MeasureT-loop
 μ-loop picture attribute nodes ws₀ n i₀ ws i = i
+
+pixel-is : (c : tie.After-slice-known2 Inv-loop μ-loop) → getD (c .before .before .loop .ws) (2 * length (c .before .before .before .before .before .args .picture .now) + (c .before .before .loop .i - 1)) 0 ≡ order-of (length (c .before .before .before .before .before .args .picture .now)) (c .before .before .before .before .before .args .ws .now) (c .before .before .loop .i - 1)
+pixel-is c = c .before .before .loop .inv .rest _ (omega arith)
 
 loop-holds : tie.Need-loop-holds Inv-loop μ-loop
 loop-holds c = pouring-none _ _ _ _ (c .before .before .pre)
@@ -37,24 +39,38 @@ slice-read-q c = omega (arith, c .before .before .loop .inv .top, c .before .bef
 cast-q : tie.Need-cast-q Inv-loop μ-loop
 cast-q c = omega (arith, c .slice-known2 .given (2 * length (c .before .before .before .before .before .args .picture .now) + (c .before .before .loop .i - 1)))
 
--- the pixel that is taken
-pixel-is : (c : tie.After-slice-known2 Inv-loop μ-loop) → getD (c .before .before .loop .ws) (2 * length (c .before .before .before .before .before .args .picture .now) + (c .before .before .loop .i - 1)) 0 ≡ order-of (length (c .before .before .before .before .before .args .picture .now)) (c .before .before .before .before .before .args .ws .now) (c .before .before .loop .i - 1)
-pixel-is c = c .before .before .loop .inv .rest _ (omega arith)
+mul-p : tie.Need-mul-p Inv-loop μ-loop
+mul-p c = omega (arith, within _ _ _ _ (c .before .before .before .before .before .pre) _ _ _ (omega arith) (c .before .before .loop .inv) (pixel-is c), c .before .before .before .before .before .pre .sized .small)
+
+slice-read-p : tie.Need-slice-read-p Inv-loop μ-loop
+slice-read-p c = omega (arith, within _ _ _ _ (c .before .before .before .before .before .before .pre) _ _ _ (omega arith) (c .before .before .before .loop .inv) (pixel-is (c .before)), c .before .before .before .loop .inv .words, c .before .before .before .before .before .before .pre .sized .words)
+
+cast-p : tie.Need-cast-p Inv-loop μ-loop
+cast-p c = omega (arith, c .slice-known3 .given (getD (c .before .before .before .loop .ws) (2 * length (c .before .before .before .before .before .before .args .picture .now) + (c .before .before .before .loop .i - 1)) 0))
+
+mul-pour : tie.Need-mul-pour Inv-loop μ-loop
+mul-pour c = search needs
+
+mul-pour-2 : tie.Need-mul-pour-2 Inv-loop μ-loop
+mul-pour-2 c = search needs
+
+sub-pour : tie.Need-sub-pour Inv-loop μ-loop
+sub-pour c = search needs
+
+part-pour-start : tie.Need-part-pour-start Inv-loop μ-loop
+part-pour-start c = search needs
+
+part-pour-end : tie.Need-part-pour-end Inv-loop μ-loop
+part-pour-end c = omega (arith, c .before .before .before .loop .inv .words, c .before .before .before .before .before .before .pre .sized .words)
 
 pour-requires : tie.Need-pour-requires Inv-loop μ-loop
-pour-requires c κs = pour-asked _ _ _ _ (c .before .before .before .before .before .before .pre) _ _ _ (omega arith) (c .before .before .before .loop .inv) (pixel-is (c .before))
+pour-requires c κs = pour-asked _ _ _ _ (c .before .before .before .before .before .before .before .pre) _ _ _ (omega arith) (c .before .before .before .before .loop .inv) (pixel-is (c .before .before))
 
 loop-less : tie.Need-loop-less Inv-loop μ-loop
 loop-less c = search needs
 
 loop-again : tie.Need-loop-again Inv-loop μ-loop
-loop-again c =
-    let start = c .before .before .before .before .before .before .before .before .before in
-    let at = c .before .before .before .before .before .before .loop in
-    subst
-    (λ (l : List ℕ). Pouring (start .args .attribute) (start .args .picture .now) (start .args .ws .now) (start .args .nodes) l (at .i - 1))
-    (sym (c .before .before .pour .ensures))
-    (pouring-more _ _ _ _ (start .pre) _ _ _ (omega arith) (at .inv) (pixel-is (c .before .before .before .before)))
+loop-again c = pouring-more _ _ _ _ (c .before .before .before .before .before .before .before .before .before .before .pre) _ _ _ (omega arith) (c .before .before .before .before .before .before .before .loop .inv) (pixel-is (c .before .before .before .before .before)) _ (c .before .before .pour .ensures)
 
 same-length : tie.Need-same-length Inv-loop μ-loop
 same-length c = omega (arith, c .before .loop .inv .words)
@@ -75,6 +91,14 @@ descendants-spec =
     mul-q-2
     slice-read-q
     cast-q
+    mul-p
+    slice-read-p
+    cast-p
+    mul-pour
+    mul-pour-2
+    sub-pour
+    part-pour-start
+    part-pour-end
     pour-requires
     loop-less
     loop-again

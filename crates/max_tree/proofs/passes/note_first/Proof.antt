@@ -1,6 +1,4 @@
 -- `max_tree::passes::note_first` meets its contract. Assumes nothing.
-use Prim.Native.Nat.{_+_, _*_}
-use lib.ListN.{length}
 use native.Mathlib.Omega.{arith}
 use Rattle.max_tree.proofs.Owning.{noted-met, noted-unmet}
 use borrow.Author.Needs.{needs}
@@ -10,20 +8,14 @@ use Rattle.max_tree.proofs.passes.note_first.Tie as tie
 mul-if1 : tie.Need-mul-if1
 mul-if1 c = search needs
 
-add-if1 : tie.Need-add-if1
-add-if1 c = search needs
-
-mul-if1-2 : tie.Need-mul-if1-2
-mul-if1-2 c = search needs
-
 slice-read-if1 : tie.Need-slice-read-if1
 slice-read-if1 c = search needs
 
 cast-if1 : tie.Need-cast-if1
-cast-if1 c = omega (arith, c .slice-known .given (3 * length (c .before .args .picture .now) + c .before .args .r))
+cast-if1 c = omega (arith, c .slice-known .given (c .before .args .r))
 
 returns : tie.Need-returns
-returns c = let a = c .before .before .args in noted-met (a .picture .now) (a .q) (a .r) (a .ws .now) (a .counts .now) (c .if1 .taken)
+returns c = let a = c .before .before .args in noted-met (a .picture .now) (a .q) (a .r) (a .part .now) (a .counts .now) (c .if1 .taken)
 
 shared-slice-read-l : tie.Need-shared-slice-read-l
 shared-slice-read-l c = search needs
@@ -31,20 +23,14 @@ shared-slice-read-l c = search needs
 cast-l : tie.Need-cast-l
 cast-l c = search needs
 
-cast-ws : tie.Need-cast-ws
-cast-ws c = search needs
+cast-part : tie.Need-cast-part
+cast-part c = search needs
 
-mul-ws : tie.Need-mul-ws
-mul-ws c = search needs
+mul-part : tie.Need-mul-part
+mul-part c = search needs
 
-add-ws : tie.Need-add-ws
-add-ws c = search needs
-
-mul-ws-2 : tie.Need-mul-ws-2
-mul-ws-2 c = search needs
-
-slice-write-ws : tie.Need-slice-write-ws
-slice-write-ws c = search needs
+slice-write-part : tie.Need-slice-write-part
+slice-write-part c = search needs
 
 mul-counts : tie.Need-mul-counts
 mul-counts c = search needs
@@ -65,25 +51,21 @@ same-length : tie.Need-same-length
 same-length c = search needs
 
 returns-2 : tie.Need-returns-2
-returns-2 c = let a = c .before .before .before .before .args in noted-unmet (a .picture .now) (a .q) (a .r) (a .ws .now) (a .counts .now) (c .before .before .if1 .left)
+returns-2 c = let a = c .before .before .before .before .args in noted-unmet (a .picture .now) (a .q) (a .r) (a .part .now) (a .counts .now) (c .before .before .if1 .left)
 
 pub note-first-spec : {M : Type 1} → statement M
 note-first-spec =
     tie.close
     (tie.spec
     mul-if1
-    add-if1
-    mul-if1-2
     slice-read-if1
     cast-if1
     returns
     shared-slice-read-l
     cast-l
-    cast-ws
-    mul-ws
-    add-ws
-    mul-ws-2
-    slice-write-ws
+    cast-part
+    mul-part
+    slice-write-part
     mul-counts
     element-copy-out-counts
     add-counts

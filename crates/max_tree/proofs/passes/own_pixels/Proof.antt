@@ -1,13 +1,14 @@
 -- `max_tree::passes::own_pixels` meets its contract. Invariant: the pixels below q have been taken. Assumes nothing.
-use Prim.Native.Nat.{_-_, _<_}
-use mathlib.Core.Path.{_≡_, ap, _∙_}
+use Prim.Native.Nat.{_*_, _-_, _+_, _<_}
+use mathlib.Core.Path.{_≡_}
 use native.Mathlib.Omega.{arith}
-use lib.ListN.{length}
-use Rattle.max_tree.specs.Accumulators.{combined}
+use lib.ListN.{length, getD, set}
+use Rattle.max_tree.specs.Accumulators.{single, combined}
 use Rattle.max_tree.specs.Passes.{root-of}
 use Rattle.max_tree.proofs.Accumulators.{single-small, bound-one}
+use Rattle.max_tree.proofs.Parts.{returned}
 use Rattle.max_tree.proofs.Stores.{root-read, root-within}
-use Rattle.max_tree.proofs.Owning.{Owning, owning-none, owning-small, note-asked, owning-more, owning-end}
+use Rattle.max_tree.proofs.Owning.{Owning, owning-none, gather-asked, gathered-one, note-asked, owning-more, owning-end}
 use borrow.Author.Needs.{needs}
 use Rattle.max_tree.proofs.passes.own_pixels.Statement.{statement}
 use Rattle.max_tree.proofs.passes.own_pixels.Tie as tie
@@ -29,6 +30,10 @@ root-below c =
     let b = c .before .before .loop-test .taken in
     rw (root-is c) (root-within (c .before .before .before .before .before .before .args .picture .now) (c .before .before .before .before .before .before .args .ws .now) _ b (c .before .before .before .before .before .before .pre .within _ b))
 
+gathered : (c : tie.After-gather Inv-loop μ-loop) → returned (4 * length (c .before .before .before .before .before .before .before .before .before .args .picture .now)) (5 * length (c .before .before .before .before .before .before .before .before .before .args .picture .now)) (c .before .before .before .before .before .before .loop .ws) (c .gather .last .1 .1 .1 .0) ≡ set (c .before .before .before .before .before .before .loop .ws) (4 * length (c .before .before .before .before .before .before .before .before .before .args .picture .now) + c .before .before .before .node-root .result) (combined (c .before .before .before .before .before .before .before .before .before .args .attribute) (getD (c .before .before .before .before .before .before .loop .ws) (4 * length (c .before .before .before .before .before .before .before .before .before .args .picture .now) + c .before .before .before .node-root .result) 0) (single (c .before .before .before .before .before .before .before .before .before .args .attribute) (c .before .before .before .before .before .before .before .before .before .args .width) (c .before .before .before .before .before .before .loop .q)))
+gathered c =
+    gathered-one _ _ _ _ (c .before .before .before .before .before .before .before .before .before .pre) (c .before .before .before .before .before .before .loop .ws) (c .before .before .before .before .before .before .loop .counts) (c .before .before .before .before .before .before .loop .q) (c .before .before .before .node-root .result) (c .before .before .before .before .before .loop-test .taken) (c .before .before .before .before .before .before .loop .inv) (root-is (c .before .before .before)) _ _ (c .before .before .one .ensures) (c .gather .ensures)
+
 loop-holds : tie.Need-loop-holds Inv-loop μ-loop
 loop-holds c = owning-none _ _ _ _ (c .before .before .pre)
 
@@ -49,47 +54,60 @@ node-root-requires c κs =
 one-requires : tie.Need-one-requires Inv-loop μ-loop
 one-requires c κs = (c .before .before .before .before .before .before .pre .columns, c .before .before .before .before .before .before .pre .short _ (c .before .before .loop-test .taken))
 
-mul-combine : tie.Need-mul-combine Inv-loop μ-loop
-mul-combine c = search needs
+mul-gather : tie.Need-mul-gather Inv-loop μ-loop
+mul-gather c = search needs
 
-add-combine : tie.Need-add-combine Inv-loop μ-loop
-add-combine c = omega (arith, root-below (c .before), c .before .before .before .before .before .before .before .pre .sized .small)
+mul-gather-2 : tie.Need-mul-gather-2 Inv-loop μ-loop
+mul-gather-2 c = search needs
 
-mul-combine-2 : tie.Need-mul-combine-2 Inv-loop μ-loop
-mul-combine-2 c = omega (arith, root-below (c .before), c .before .before .before .before .before .before .before .pre .sized .small)
+mul-gather-3 : tie.Need-mul-gather-3 Inv-loop μ-loop
+mul-gather-3 c = search needs
 
-slice-read-combine : tie.Need-slice-read-combine Inv-loop μ-loop
-slice-read-combine c = omega (arith, root-below (c .before .before), c .before .before .before .before .before .loop .inv .words, c .before .before .before .before .before .before .before .before .pre .sized .words)
+sub-gather : tie.Need-sub-gather Inv-loop μ-loop
+sub-gather c = search needs
 
-combine-requires : tie.Need-combine-requires Inv-loop μ-loop
-combine-requires c κs = (
-  owning-small _ _ _ _ (c .before .before .before .before .before .before .before .before .pre) _ _ _ _ (c .before .before .before .before .before .loop .inv) (root-below (c .before .before)),
-  rw (c .before .one .ensures) (bound-one (c .before .before .before .before .before .before .before .before .args .attribute) _ (single-small _ _ _ (c .before .before .before .before .before .before .before .before .pre .short _ (c .before .before .before .before .loop-test .taken)))),
-)
+part-gather-start : tie.Need-part-gather-start Inv-loop μ-loop
+part-gather-start c = search needs
 
-mul-ws : tie.Need-mul-ws Inv-loop μ-loop
-mul-ws c = search needs
+part-gather-end : tie.Need-part-gather-end Inv-loop μ-loop
+part-gather-end c = omega (arith, c .before .before .before .before .loop .inv .words, c .before .before .before .before .before .before .before .pre .sized .words)
 
-add-ws : tie.Need-add-ws Inv-loop μ-loop
-add-ws c = omega (arith, root-below (c .before .before .before), c .before .before .before .before .before .before .before .before .before .pre .sized .small)
+gather-requires : tie.Need-gather-requires Inv-loop μ-loop
+gather-requires c κs =
+    let asked = gather-asked _ _ _ _ (c .before .before .before .before .before .before .before .before .pre) (c .before .before .before .before .before .loop .ws) (c .before .before .before .before .before .loop .counts) (c .before .before .before .before .before .loop .q) (c .before .before .node-root .result) (c .before .before .before .before .loop-test .taken) (c .before .before .before .before .before .loop .inv) (root-is (c .before .before)) in (
+      asked .0,
+      (asked .1, rw (c .before .one .ensures) (bound-one (c .before .before .before .before .before .before .before .before .args .attribute) _ (single-small _ _ _ (c .before .before .before .before .before .before .before .before .pre .short _ (c .before .before .before .before .loop-test .taken))))),
+    )
 
-mul-ws-2 : tie.Need-mul-ws-2 Inv-loop μ-loop
-mul-ws-2 c = omega (arith, root-below (c .before .before .before), c .before .before .before .before .before .before .before .before .before .pre .sized .small)
+mul-note-first : tie.Need-mul-note-first Inv-loop μ-loop
+mul-note-first c = search needs
 
-slice-write-ws : tie.Need-slice-write-ws Inv-loop μ-loop
-slice-write-ws c = omega (arith, root-below (c .before .before .before), c .before .before .before .before .before .before .loop .inv .words, c .before .before .before .before .before .before .before .before .before .pre .sized .words)
+mul-note-first-2 : tie.Need-mul-note-first-2 Inv-loop μ-loop
+mul-note-first-2 c = search needs
+
+mul-note-first-3 : tie.Need-mul-note-first-3 Inv-loop μ-loop
+mul-note-first-3 c = search needs
+
+sub-note-first : tie.Need-sub-note-first Inv-loop μ-loop
+sub-note-first c = search needs
+
+part-note-first-start : tie.Need-part-note-first-start Inv-loop μ-loop
+part-note-first-start c = search needs
+
+part-note-first-end : tie.Need-part-note-first-end Inv-loop μ-loop
+part-note-first-end c = omega (arith, c .before .before .before .before .before .before .before .before .loop .inv .words, c .before .before .before .before .before .before .before .before .before .before .before .pre .sized .words)
 
 note-first-requires : tie.Need-note-first-requires Inv-loop μ-loop
-note-first-requires c κs = note-asked _ _ _ _ (c .before .before .before .before .before .before .before .before .before .before .before .pre) _ _ _ _ _ (c .before .before .before .before .before .before .before .loop-test .taken) (c .before .before .before .before .before .before .before .before .loop .inv) (root-is (c .before .before .before .before .before)) (c .before .before .combine .ensures ∙ ap (combined _ _) (c .before .before .before .before .one .ensures))
+note-first-requires c κs = note-asked _ _ _ _ (c .before .before .before .before .before .before .before .before .before .before .before .before .before .pre) (c .before .before .before .before .before .before .before .before .before .before .loop .ws) (c .before .before .before .before .before .before .before .before .before .before .loop .counts) (c .before .before .before .before .before .before .before .before .before .before .loop .q) (c .before .before .before .before .before .before .before .node-root .result) (c .before .before .before .before .before .before .before .before .before .loop-test .taken) (c .before .before .before .before .before .before .before .before .before .before .loop .inv) (root-is (c .before .before .before .before .before .before .before)) _ (gathered (c .before .before .before .before))
 
 add-q : tie.Need-add-q Inv-loop μ-loop
-add-q c = omega (arith, c .before .before .before .before .before .before .before .before .before .before .loop-test .taken, c .before .before .before .before .before .before .before .before .before .before .before .before .before .before .pre .sized .small)
+add-q c = omega (arith, c .before .before .before .before .before .before .before .before .before .before .before .before .loop-test .taken, c .before .before .before .before .before .before .before .before .before .before .before .before .before .before .before .before .pre .sized .small)
 
 loop-less : tie.Need-loop-less Inv-loop μ-loop
-loop-less c = omega (arith, c .before .before .before .before .before .before .before .before .before .before .loop-test .taken)
+loop-less c = omega (arith, c .before .before .before .before .before .before .before .before .before .before .before .before .loop-test .taken)
 
 loop-again : tie.Need-loop-again Inv-loop μ-loop
-loop-again c = owning-more _ _ _ _ (c .before .before .before .before .before .before .before .before .before .before .before .before .before .before .pre) _ _ _ _ _ (c .before .before .before .before .before .before .before .before .before .before .loop-test .taken) (c .before .before .before .before .before .before .before .before .before .before .before .loop .inv) (root-is (c .before .before .before .before .before .before .before .before)) (c .before .before .before .before .before .combine .ensures ∙ ap (combined _ _) (c .before .before .before .before .before .before .before .one .ensures)) _ _ (c .before .before .note-first .ensures .0) (c .before .before .note-first .ensures .1)
+loop-again c = owning-more _ _ _ _ (c .before .before .before .before .before .before .before .before .before .before .before .before .before .before .before .before .pre) (c .before .before .before .before .before .before .before .before .before .before .before .before .before .loop .ws) (c .before .before .before .before .before .before .before .before .before .before .before .before .before .loop .counts) (c .before .before .before .before .before .before .before .before .before .before .before .before .before .loop .q) (c .before .before .before .before .before .before .before .before .before .before .node-root .result) (c .before .before .before .before .before .before .before .before .before .before .before .before .loop-test .taken) (c .before .before .before .before .before .before .before .before .before .before .before .before .before .loop .inv) (root-is (c .before .before .before .before .before .before .before .before .before .before)) _ _ _ (gathered (c .before .before .before .before .before .before .before)) (c .before .before .note-first .ensures .0) (c .before .before .note-first .ensures .1)
 
 same-length : tie.Need-same-length Inv-loop μ-loop
 same-length c = c .before .loop .inv .words
@@ -109,15 +127,19 @@ own-pixels-spec =
     cast-node-root
     node-root-requires
     one-requires
-    mul-combine
-    add-combine
-    mul-combine-2
-    slice-read-combine
-    combine-requires
-    mul-ws
-    add-ws
-    mul-ws-2
-    slice-write-ws
+    mul-gather
+    mul-gather-2
+    mul-gather-3
+    sub-gather
+    part-gather-start
+    part-gather-end
+    gather-requires
+    mul-note-first
+    mul-note-first-2
+    mul-note-first-3
+    sub-note-first
+    part-note-first-start
+    part-note-first-end
     note-first-requires
     add-q
     loop-less
