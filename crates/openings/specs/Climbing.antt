@@ -44,10 +44,14 @@ pub data Kept (picture words : List ℕ) (n t : ℕ) : ℕ → ℕ → ℕ → T
   root : {k r : ℕ} → parent words r ≡ r → Kept picture words n t k r (grey picture r)
   up : {k r v : ℕ} → attribute words n r < t → Kept picture words n t k (parent words r) v → Kept picture words n t (suc k) r v
 
--- the grey v of a pixel p is found by a climb from its representative; "a climb has at most 255 steps"
+-- "a climb has at most 255 steps"
+abbrev pub longest-climb : ℕ
+longest-climb = 255
+
+-- the grey v of a pixel p is found by a climb from its representative
 pub record Opened-to (picture words : List ℕ) (n t p v : ℕ) : Type 0 where
-  pub own : attribute words n p ≡ 0 → Kept picture words n t 255 (parent words p) v
-  pub itself : Representative words n p → Kept picture words n t 255 p v
+  pub own : attribute words n p ≡ 0 → Kept picture words n t longest-climb (parent words p) v
+  pub itself : Representative words n p → Kept picture words n t longest-climb p v
 
 -- every position before k of the output has the grey that a climb finds
 abbrev pub Opened-before : List ℕ → List ℕ → ℕ → ℕ → ℕ → List ℕ → Type 0
