@@ -190,9 +190,10 @@ module _ (w a : ℕ) (picture ws₀ : List ℕ) (start : Blank w a picture ws₀
     pub note-asked : (l : List ℕ) → l ≡ ws₁ → Noting picture i r (lent (3 * n) (4 * n) l) counts
     note-asked l e =
         record {
+          words = rw (e, lent-long (3 * n) (4 * n) ws₁ high₁) (omega arith);
           small = start .sized .small;
           within = b;
-          root = rw (e, lent-long (3 * n) (4 * n) ws₁ high₁) (omega (arith, in-range));
+          root = in-range;
           level = start .bytes i;
           wide = O .wide;
           few = omega (arith, O .nodes (grey picture i) (start .bytes i), count-le i (λ (q : ℕ). eqb (node-level picture ws₀ q) (grey picture i)));

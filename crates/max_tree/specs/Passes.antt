@@ -62,11 +62,12 @@ pub record Blank (w a : ℕ) (picture ws : List ℕ) : Type 0 where
   pub unnoted : (r : ℕ) → r < length picture → first-of (length picture) ws r ≡ length picture
   pub blank : (r : ℕ) → r < length picture → held-of (length picture) ws r ≡ nothing a
 
--- q and the root r of its node are pixels, part 4 has a word for r, and the count of the level of q is small
+-- q and the root r of its node are pixels, part 4 has a word for each pixel, and the count of the level of q is small
 pub record Noting (picture : List ℕ) (q r : ℕ) (part counts : List ℕ) : Type 0 where
+  pub words : length part ≡ length picture
   pub small : length picture ≤ 1048576
   pub within : q < length picture
-  pub root : r < length part
+  pub root : r < length picture
   pub level : grey picture q < 256
   pub wide : length counts ≡ 256
   pub few : getD counts (grey picture q) 0 ≤ length picture
