@@ -121,7 +121,7 @@ static uint32_t number_of(const char *word) {
     for (size_t i = 0; i < digits && i < 10; i++)
         number = 10 * number + (uint64_t)(word[i] - '0');
     if (digits < 1 || digits > 10 || word[digits] != '\0' || number > UINT32_MAX)
-        fail(WRONG_USE, "'%s' is no step: steps are whole numbers from 1 to 1048577, in digits alone", word);
+        fail(WRONG_USE, "'%s' is no step: steps are whole numbers from 1 to 1048577, in 1 to 10 digits and nothing else", word);
     return (uint32_t)number;
 }
 

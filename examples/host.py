@@ -63,7 +63,7 @@ def index_file(picture, index):
 def number_of(word):
     """A number is 1 to 10 digits and nothing else, and has 32 bits; whether it is a step, the library judges."""
     if re.fullmatch("[0-9]{1,10}", word) is None or int(word) >= 2 ** 32:
-        raise Failure(WRONG_USE, f"'{word}' is no step: steps are whole numbers from 1 to 1048577, in digits alone")
+        raise Failure(WRONG_USE, f"'{word}' is no step: steps are whole numbers from 1 to 1048577, in 1 to 10 digits and nothing else")
     return int(word)
 
 

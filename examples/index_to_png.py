@@ -8,7 +8,7 @@ steps have a colour and a name each; more share a ramp of colours, of which the 
 
 import sys
 
-from pgm_to_png import RGB, png, read_pgm
+from pgm_to_png import RGB, png, read_pgm, run, wrong_use
 
 MOST_INDEX = 256
 MOST_NAMES = 16
@@ -124,14 +124,14 @@ def index_of(raster):
 
 def main(words):
     if len(words) < 4 or not all(word.isdecimal() for word in words[3:]) or words[2] not in ("area", "height", "width"):
-        sys.exit(__doc__)
+        wrong_use(__doc__)
     width, height, raster = read_pgm(words[0], MOST_INDEX)
     index, steps = index_of(raster), [int(word) for word in words[3:]]
-    if len(index) != width * height or max(index) > len(steps):
+    if len(raster) != 2 * width * height or not index or max(index) > len(steps):
         sys.exit(f"{words[0]}: not an index map of {len(steps)} steps")
     with open(words[1], "wb") as file:
         file.write(coloured(width, height, index, words[2], steps))
 
 
 if __name__ == "__main__":
-    main(sys.argv[1:])
+    run(main)

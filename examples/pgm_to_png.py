@@ -11,6 +11,19 @@ import sys
 import zlib
 
 
+def wrong_use(usage):
+    print(usage, file=sys.stderr)
+    sys.exit(2)
+
+
+def run(main):
+    """A file that cannot be read or written ends the program with a sentence and status 1."""
+    try:
+        main(sys.argv[1:])
+    except OSError as fault:
+        sys.exit(f"{fault.filename}: {fault.strerror}")
+
+
 def read_pgm(name, maximum):
     """Width, height and raster of a file that an example wrote with this maximum."""
     with open(name, "rb") as file:
@@ -38,12 +51,14 @@ def png(width, height, colour, rows):
 
 def main(words):
     if len(words) != 2:
-        sys.exit(__doc__)
+        wrong_use(__doc__)
     width, height, raster = read_pgm(words[0], 255)
+    if len(raster) != width * height or not raster:
+        sys.exit(f"{words[0]}: not {width} x {height} bytes of raster")
     rows = [raster[y * width:(y + 1) * width] for y in range(height)]
     with open(words[1], "wb") as file:
         file.write(png(width, height, GREY, rows))
 
 
 if __name__ == "__main__":
-    main(sys.argv[1:])
+    run(main)

@@ -27,13 +27,13 @@ use Rattle.basin.specs.declared.judging.Job.the-variants.{Size, Refused}
 use Rattle.basin.specs.Judging.{both-read, lengths-numbers, sized-by, judged-with, job-of, job-numbers, job-steps}
 
 -- an answer's numbers determine it
-lengths-determined : (r s : Lengths) → lengths-numbers r ≡ lengths-numbers s → r ≡ s
+pub lengths-determined : (r s : Lengths) → lengths-numbers r ≡ lengths-numbers s → r ≡ s
 lengths-determined (Both p q) (Both k l) e = cc
 lengths-determined (Both p q) (Not-both d) e = absurd (omega (arith, ap length e))
 lengths-determined (Not-both c) (Both k l) e = absurd (omega (arith, ap length e))
 lengths-determined (Not-both c) (Not-both d) e = ap Not-both (number-determined c d (cc e))
 
-job-determined : (r s : Job) → job-numbers r ≡ job-numbers s → r ≡ s
+pub job-determined : (r s : Job) → job-numbers r ≡ job-numbers s → r ≡ s
 job-determined (Size w h a k) (Size u v b l) e = cc
 job-determined (Size w h a k) (Refused d) e = absurd (omega (arith, ap length e))
 job-determined (Refused c) (Size u v b l) e = absurd (omega (arith, ap length e))
@@ -77,16 +77,13 @@ unfolding job-of job-steps
 unread file list lent cause e = rw e (refl, refl)
 
 module _ (file list lent : List ℕ) (w h maximum start : ℕ) (is : read-answer file ≡ Picture w h maximum start) where
-  pixels : length (raster-of file) ≡ w * h
-  pixels = accepted-page file w h maximum start is .raster-length
-
-  pub too-large : 2048 < length (raster-of file) → Judged file list lent (Refused TooLarge) lent
+  pub too-large : 2048 < w * h → Judged file list lent (Refused TooLarge) lent
   unfolding job-of job-steps
-  too-large l = rw (is, lt-ltb 2048 (w * h) (omega (arith, pixels))) (refl, refl)
+  too-large l = rw (is, lt-ltb 2048 (w * h) l) (refl, refl)
 
-  pub small-enough : length (raster-of file) ≤ 2048 → (answer : Job) (after : List ℕ) → answer ≡ sized-by w h (parse-answer list) → after ≡ steps-after list lent → Judged file list lent answer after
+  pub small-enough : w * h ≤ 2048 → (answer : Job) (after : List ℕ) → answer ≡ sized-by w h (parse-answer list) → after ≡ steps-after list lent → Judged file list lent answer after
   unfolding job-of job-steps
-  small-enough l answer after e f = rw (is, le-ltb 2048 (w * h) (omega (arith, pixels))) (ap job-numbers e, f)
+  small-enough l answer after e f = rw (is, le-ltb 2048 (w * h) l) (ap job-numbers e, f)
 
 -- what is to be sized: a picture of at most 2,048 pixels, by a steps file that is accepted
 pub record Sizing (file list lent : List ℕ) (attribute count : ℕ) : Type 0 where

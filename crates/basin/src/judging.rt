@@ -76,7 +76,7 @@ pub fn judge(file: &[u8], list: &[u8], thresholds: &mut [u32; 256]) -> Job
             maximum: _,
             start: _,
         } => {
-            if 2048 < pgm::raster(file).len() {
+            if 2048 < (width as usize) * (height as usize) {
                 return Job::Refused(Cause::TooLarge);
             }
             return by_steps(width, height, list, thresholds);

@@ -9,4 +9,4 @@ pub mod Parts
 pub mod Shape
 pub mod RoundTrip
 pub mod Readers
-pub mod Opening
+pub mod Reading

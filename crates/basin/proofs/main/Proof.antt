@@ -1,5 +1,4 @@
 -- `basin::main` is safe and ends: no more bytes are loaded than there is room for. Assumes nothing but the contracts of the C library.
-use mathlib.Core.Path.{sym, _∙_}
 use Rattle.basin.proofs.Lending.{taken, loaded-room}
 use Rattle.basin.proofs.Jobs.{both-loaded}
 use borrow.Author.Needs.{needs}
