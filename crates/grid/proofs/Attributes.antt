@@ -16,11 +16,15 @@ use Rattle.connected.specs.Component.{Symmetric}
 use Rattle.connected.proofs.Laws.{both-symmetric}
 use Rattle.opening.specs.Opening.{Increasing, Needs-pixel, at-least}
 use Rattle.opening.proofs.Levels.{cond-case}
-use Rattle.grid.specs.Neighbours.{edge-neighbours, next-in-row, next-in-column}
+use Rattle.grid.specs.Pixels.{pixels}
+use Rattle.grid.specs.Neighbours.{adjacent, next-in-row, next-in-column}
 use Rattle.grid.specs.Attributes.{extent, side, attribute}
+use Rattle.grid.specs.declared.Grid.{Grid}
 
-pub edge-symmetric : (w : ℕ) → Symmetric (edge-neighbours w)
-edge-symmetric w = both-symmetric (λ (p q : ℕ). next-in-row w p q || next-in-column w p q)
+-- neighbours are mutual
+pub adjacent-symmetric : (grid : Grid) → Symmetric (adjacent grid)
+unfolding adjacent
+adjacent-symmetric grid = both-symmetric (λ (p q : ℕ). next-in-row (grid .width) p q || next-in-column (grid .width) p q)
 
 extent-step : (a b : Bool) (x y u v : ℕ) → (a ≡ true → b ≡ true) → u ≤ v → y ≤ x → cond a (u - x + 1) 0 ≤ cond b (v - y + 1) 0
 extent-step true true x y u v i h k = omega arith
@@ -49,32 +53,36 @@ either : (b : Bool) (k l u v : ℕ) → k ≤ l → u ≤ v → cond b k u ≤ c
 either true k l u v h i = h
 either false k l u v h i = i
 
-pub attribute-increasing : (w n a : ℕ) → Increasing n (attribute w n a)
-unfolding attribute
-attribute-increasing w n a s t h =
-    either (eqb a 1) (count n s) (count n t) (extent n (side w a) s) (extent n (side w a) t)
-    (count-mono n s t h)
-    (extent-mono n (side w a) s t h)
+module _ (grid : Grid) (a : ℕ) where
+  pub attribute-increasing : Increasing (pixels grid) (attribute grid a)
+  unfolding attribute
+  attribute-increasing s t h =
+      either (eqb a 1) (count (pixels grid) s) (count (pixels grid) t)
+      (extent (pixels grid) (side (grid .width) a) s)
+      (extent (pixels grid) (side (grid .width) a) t)
+      (count-mono (pixels grid) s t h)
+      (extent-mono (pixels grid) (side (grid .width) a) s t h)
 
--- a set with a pixel in it has an attribute above 0
-pub attribute-some : (w n a : ℕ) (s : Positions) (q : ℕ) → q < n → s q ≡ true → 1 ≤ attribute w n a s
-unfolding attribute
-attribute-some w n a s q below in-s =
-    cond-case
-    (λ (k : ℕ). 1 ≤ k)
-    (eqb a 1)
-    (λ e. count-some n s q below in-s)
-    (λ e. rw (extent-ends n (side w a) s (some-in-intro n s q below in-s)) (omega arith))
+  -- a set with a pixel in it has an attribute above 0
+  pub attribute-some : (s : Positions) (q : ℕ) → q < pixels grid → s q ≡ true → 1 ≤ attribute grid a s
+  unfolding attribute
+  attribute-some s q below in-s =
+      cond-case
+      (λ (k : ℕ). 1 ≤ k)
+      (eqb a 1)
+      (λ e. count-some (pixels grid) s q below in-s)
+      (λ e. rw (extent-ends (pixels grid) (side (grid .width) a) s (some-in-intro (pixels grid) s q below in-s)) (omega arith))
 
--- a set with no pixel in it has attribute 0
-attribute-none : (w n a : ℕ) (s : Positions) → some-in n s ≡ false → attribute w n a s ≡ 0
-unfolding attribute extent
-attribute-none w n a s none = cond-case (λ (k : ℕ). k ≡ 0) (eqb a 1) (λ e. count-none n s (none-in n s none)) (λ e. rw none)
+  -- a set with no pixel in it has attribute 0
+  attribute-none : (s : Positions) → some-in (pixels grid) s ≡ false → attribute grid a s ≡ 0
+  unfolding attribute extent
+  attribute-none s none =
+      cond-case (λ (k : ℕ). k ≡ 0) (eqb a 1) (λ e. count-none (pixels grid) s (none-in (pixels grid) s none)) (λ e. rw none)
 
--- so it passes no threshold from 1 on
-pub attribute-needs-pixel : (w n a t : ℕ) → 1 ≤ t → Needs-pixel n (at-least (attribute w n a) t)
-attribute-needs-pixel w n a t from-one s pass =
-    ⊎-elim
-    (λ some. some)
-    (λ none. absurd (omega (arith, leb-true t (attribute w n a s) pass, attribute-none w n a s none)))
-    (decided (some-in n s))
+  -- so it passes no threshold from 1 on
+  pub attribute-needs-pixel : (t : ℕ) → 1 ≤ t → Needs-pixel (pixels grid) (at-least (attribute grid a) t)
+  attribute-needs-pixel t from-one s pass =
+      ⊎-elim
+      (λ some. some)
+      (λ none. absurd (omega (arith, leb-true t (attribute grid a s) pass, attribute-none s none)))
+      (decided (some-in (pixels grid) s))

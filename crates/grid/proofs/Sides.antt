@@ -9,7 +9,8 @@ use native.Mathlib.Omega.{arith}
 use lib.Dec.{eqb}
 use borrow.Author.Tests.{eqb-true, eqb-false, eq-eqb, ne-eqb, not-true}
 use Rattle.sets.proofs.Tests.{or-cases, and-left, and-both, and-right, or-left, or-right, le-or-lt}
-use Rattle.grid.specs.Neighbours.{next-in-row, next-in-column, edge-neighbours}
+use Rattle.grid.specs.Neighbours.{next-in-row, next-in-column, edge-neighbours, adjacent}
+use Rattle.grid.specs.declared.Grid.{Grid}
 
 module _ (w p q : ℕ) where
   pub to-right : next-in-row w p q ≡ true → edge-neighbours w p q ≡ true
@@ -72,7 +73,7 @@ module _ (w p : ℕ) where
       (λ far. omega arith)
 
 -- every pixel but the first has a neighbour before it
-pub neighbour-before : (w : ℕ) → 0 < w → (q : ℕ) → 0 < q → (r : ℕ) × (r < q) × (edge-neighbours w r q ≡ true)
+neighbour-before : (w : ℕ) → 0 < w → (q : ℕ) → 0 < q → (r : ℕ) × (r < q) × (edge-neighbours w r q ≡ true)
 neighbour-before w h q hq =
     by-cases
     (ℕ-discrete (q % w) 0)
@@ -82,3 +83,7 @@ neighbour-before w h q hq =
     in
     (q - w, omega arith, to-below w (q - w) q (is-next-in-column w (q - w) q (omega arith))))
     (λ ne. (q - 1, omega arith, to-right w (q - 1) q (is-next-in-row w (q - 1) q (omega arith) ne)))
+
+pub adjacent-before : (grid : Grid) → 0 < grid .width → (q : ℕ) → 0 < q → (r : ℕ) × (r < q) × (adjacent grid r q ≡ true)
+unfolding adjacent
+adjacent-before grid wide q later = neighbour-before (grid .width) wide q later

@@ -1,18 +1,20 @@
--- The attributes of a set of pixels, in a picture of width w with n pixels.
+-- The attributes of a set of pixels.
 use Prim.Native.Nat.{ℕ, _+_, _-_, _/_, _%_}
 use mathlib.Core.Bool.{cond}
 use lib.Dec.{eqb}
 use Rattle.sets.specs.Sets.{Positions, some-in, count}
 use Rattle.sets.specs.Gather.{least, greatest}
+use Rattle.grid.specs.Pixels.{pixels}
+use Rattle.grid.specs.declared.Grid.{Grid}
 
 -- the greatest key in s less the least, plus 1; 0 of the empty set. Keys of positions below n are below n.
 unfoldable pub extent : ℕ → (ℕ → ℕ) → Positions → ℕ
 extent n key s = cond (some-in n s) (greatest n key s - least n key s + 1) 0
 
--- the row of a position (2) or its column (3)
+-- the row of a position (2) or its column (3), in a picture of width w
 unfoldable pub side : ℕ → ℕ → ℕ → ℕ
 side w a q = cond (eqb a 2) (q / w) (q % w)
 
 -- "1 area (pixels), 2 height (lowest row less highest row, plus 1), 3 width (the same of columns)"
-unfoldable pub attribute : ℕ → ℕ → ℕ → Positions → ℕ
-attribute w n a s = cond (eqb a 1) (count n s) (extent n (side w a) s)
+unfoldable pub attribute : Grid → ℕ → Positions → ℕ
+attribute grid a s = cond (eqb a 1) (count (pixels grid) s) (extent (pixels grid) (side (grid .width) a) s)

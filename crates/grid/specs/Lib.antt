@@ -1,3 +1,4 @@
+pub mod Pixels
 pub mod Neighbours
 pub mod Attributes
 pub mod Greys

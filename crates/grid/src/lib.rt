@@ -1,1 +1,15 @@
-// The grid of a picture: definitions and laws only, no code.
+// The grid of a picture, by value: what a call names of its pixels' places. Definitions of neighbours and attributes, and their laws, are over it.
+ghost use mathlib.Core.Path.{_≡_};
+ghost use Rattle.grid.specs.Pixels.{pixels};
+
+pub struct Grid {
+    pub width: u32,
+    pub height: u32,
+}
+
+// How many pixels a picture has. The product of any two sides fits 64 bits.
+pub fn pixels(grid: Grid) -> usize
+    ensures { λ r. ⌜ r ≡ pixels grid ⌝ }
+{
+    (grid.width as usize) * (grid.height as usize)
+}

@@ -1,0 +1,7 @@
+-- The pixels of a picture. Position = row × width + column, from 0 at the top left.
+use Prim.Native.Nat.{ℕ, _*_}
+use Rattle.grid.specs.declared.Grid.{Grid}
+
+-- "pixels n = width × height"
+abbrev pub pixels : Grid → ℕ
+pixels grid = grid .width * grid .height
