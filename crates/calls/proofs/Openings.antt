@@ -1,13 +1,15 @@
--- What the scope says of an opening of a picture of width w and height h with the greys g, at every threshold. Each law cites one over
+-- What the scope says of an opening of a picture with the greys g, at every threshold. Each law cites one over
 -- any test on sets.
-use Prim.Native.Nat.{ℕ, _*_, _≤_, _<_}
+use Prim.Native.Nat.{ℕ, _≤_, _<_}
 use mathlib.Core.Logic.{_↔_, inl, inr}
 use mathlib.Core.Path.{_≡_}
 use borrow.Author.Tests.{leb-true, leb-false, le-leb, lt-leb}
 use Rattle.sets.specs.Sets.{member}
-use Rattle.grid.specs.Neighbours.{edge-neighbours}
+use Rattle.grid.specs.Pixels.{pixels}
+use Rattle.grid.specs.Neighbours.{adjacent}
 use Rattle.grid.specs.Attributes.{attribute}
-use Rattle.grid.proofs.Attributes.{edge-symmetric, attribute-increasing, attribute-needs-pixel}
+use Rattle.grid.specs.declared.Grid.{Grid}
+use Rattle.grid.proofs.Attributes.{adjacent-symmetric, attribute-increasing, attribute-needs-pixel}
 use Rattle.grid.proofs.Whole.{grid-whole}
 use Rattle.opening.specs.Opening.{component-at, least-grey, Upward, at-least, Greatest}
 use Rattle.opening.specs.Node.{node}
@@ -22,55 +24,55 @@ greatest-same : (P Q : ℕ → Type 0) → ((h : ℕ) → P h ↔ Q h) → (leas
 greatest-same P Q same least v (inl (pass, highest)) = inl (same v .0 pass, λ h pass-h. highest h (same h .1 pass-h))
 greatest-same P Q same least v (inr (none, is-least)) = inr ((λ h pass. none h (same h .1 pass)), is-least)
 
-module _ (w h a t : ℕ) (g : ℕ → ℕ) (p : ℕ) where
-  up : Upward (w * h) (at-least (attribute w (w * h) a) t)
-  up = at-least-up (w * h) (attribute w (w * h) a) (attribute-increasing w (w * h) a) t
+module _ (grid : Grid) (a t : ℕ) (g : ℕ → ℕ) (p : ℕ) where
+  up : Upward (pixels grid) (at-least (attribute grid a) t)
+  up = at-least-up (pixels grid) (attribute grid a) (attribute-increasing grid a) t
 
   -- "Opening at threshold t, from 1 [on]: a pixel's new grey is the greatest h for which its component of the level set at h has
   -- attribute t or more; the picture's least grey if there is none."
   pub opening-greatest : 1 ≤ t
       → Greatest
-      (λ (level : ℕ). t ≤ attribute w (w * h) a (member (component-at (w * h) (edge-neighbours w) g level p)))
-      (least-grey (w * h) g)
-      (opening w h a t g p)
+      (λ (level : ℕ). t ≤ attribute grid a (member (component-at (pixels grid) (adjacent grid) g level p)))
+      (least-grey (pixels grid) g)
+      (opening grid a t g p)
   opening-greatest from-one =
       greatest-same
       _
       _
       (λ level. (leb-true t _, le-leb t _))
-      (least-grey (w * h) g)
-      (opening w h a t g p)
+      (least-grey (pixels grid) g)
+      (opening grid a t g p)
       (opened-greatest
-      (w * h)
-      (edge-neighbours w)
-      (at-least (attribute w (w * h) a) t)
+      (pixels grid)
+      (adjacent grid)
+      (at-least (attribute grid a) t)
       up
       g
       p
-      (attribute-needs-pixel w (w * h) a t from-one))
+      (attribute-needs-pixel grid a t from-one))
 
   -- "a node goes exactly if it is not the root and its attribute is below t": the own pixels of a node lose grey. "The root is the node
   -- at the least grey".
-  pub node-goes : opening w h a t g p < g p
-      ↔ ((least-grey (w * h) g < g p) × (attribute w (w * h) a (member (node (w * h) (edge-neighbours w) g p)) < t))
+  pub node-goes : opening grid a t g p < g p
+      ↔ ((least-grey (pixels grid) g < g p) × (attribute grid a (member (node (pixels grid) (adjacent grid) g p)) < t))
   node-goes =
-      let goes = opened-goes (w * h) (edge-neighbours w) (at-least (attribute w (w * h) a) t) up g p in (
+      let goes = opened-goes (pixels grid) (adjacent grid) (at-least (attribute grid a) t) up g p in (
         (λ less. let (inner, small) = goes .0 less in (inner, leb-false t _ small)),
         (λ both. goes .1 (both .0, lt-leb t _ (both .1))),
       )
 
   -- "Levels fall strictly on the way up, so a climb has at most 255 steps": a climb of 255 finds the new grey of a byte
-  pub climb-opens : 1 ≤ w → p < w * h → g p ≤ 255
-      → climbed (w * h) (edge-neighbours w) (at-least (attribute w (w * h) a) t) g 255 p ≡ opening w h a t g p
+  pub climb-opens : 1 ≤ grid .width → p < pixels grid → g p ≤ 255
+      → climbed (pixels grid) (adjacent grid) (at-least (attribute grid a) t) g 255 p ≡ opening grid a t g p
   climb-opens wide below byte =
       climbed-opened
-      (w * h)
-      (edge-neighbours w)
-      (edge-symmetric w)
+      (pixels grid)
+      (adjacent grid)
+      (adjacent-symmetric grid)
       g
-      (at-least (attribute w (w * h) a) t)
+      (at-least (attribute grid a) t)
       up
-      (grid-whole w wide (w * h) g)
+      (grid-whole grid wide g)
       255
       p
       below

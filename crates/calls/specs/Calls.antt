@@ -1,88 +1,184 @@
 -- What the calls on a picture answer and write. A picture is the list of its greys by position; what is lent comes in as a list, and
 -- a refused call leaves it as it was.
-use Prim.Native.Nat.{ℕ, _*_}
-use mathlib.Core.List.{List, [], _∷_}
+use Prim.Native.Nat.{ℕ}
+use mathlib.Core.List.{List, [], _∷_, _++_}
 use lib.ListN.{length}
+use denote.Ref.{RefT, now}
+use denote.Triple.Both.{Both}
 use Rattle.sets.specs.Sets.{table}
-use Rattle.grid.specs.Neighbours.{edge-neighbours}
+use Rattle.grid.specs.Pixels.{pixels}
+use Rattle.grid.specs.Neighbours.{adjacent}
 use Rattle.grid.specs.Attributes.{attribute}
+use Rattle.grid.specs.declared.Grid.{Grid}
 pub use Rattle.grid.specs.Greys.{grey}
 use Rattle.opening.specs.Opening.{opened}
 use Rattle.opening.specs.Residue.{residue-at, index-at}
 use Rattle.tree.specs.Tree.{workspace, number-of-nodes}
 use Rattle.causes.specs.Causes.{number-of}
-use Rattle.calls.specs.Judging.{build-verdict, opening-verdict, map-verdict}
+use Rattle.causes.specs.declared.Cause.the-variants.{Steps}
+use Rattle.calls.specs.Judging.{threshold-good, steps-good, judged, picture-tests, workspace-test, output-test}
 use Rattle.calls.specs.declared.Verdict.{Verdict}
 use Rattle.calls.specs.declared.Verdict.the-variants.{Accepted, Refused}
 use Rattle.calls.specs.declared.Built.{Built}
 use Rattle.calls.specs.declared.Built.the-variants.{Nodes, Refused as Not-built}
 
--- the new grey of a position: the opening at the threshold t of the attribute a, in a picture of width w and height h with the greys g
-abbrev pub opening : ℕ → ℕ → ℕ → ℕ → (ℕ → ℕ) → ℕ → ℕ
-opening w h a t g p = opened (w * h) (edge-neighbours w) (attribute w (w * h) a) t g p
+-- the new grey of a position: the opening at the threshold t of the attribute a, in a picture with the greys g
+abbrev pub opening : Grid → ℕ → ℕ → (ℕ → ℕ) → ℕ → ℕ
+opening grid a t g p = opened (pixels grid) (adjacent grid) (attribute grid a) t g p
 
 -- the opened picture
-unfoldable pub opened-picture : ℕ → ℕ → ℕ → ℕ → List ℕ → List ℕ
-opened-picture w h a t picture = table (w * h) (λ (p : ℕ). opening w h a t (grey picture) p)
+unfoldable pub opened-picture : Grid → ℕ → ℕ → List ℕ → List ℕ
+opened-picture grid a t picture = table (pixels grid) (λ (p : ℕ). opening grid a t (grey picture) p)
 
 -- "The residue map holds the largest residue (a byte)."
-unfoldable pub residue-map : ℕ → ℕ → ℕ → List ℕ → List ℕ → List ℕ
-residue-map w h a steps picture =
-    table (w * h) (λ (p : ℕ). residue-at (w * h) (edge-neighbours w) (attribute w (w * h) a) steps (grey picture) p)
+unfoldable pub residue-map : Grid → ℕ → List ℕ → List ℕ → List ℕ
+residue-map grid a steps picture =
+    table (pixels grid) (λ (p : ℕ). residue-at (pixels grid) (adjacent grid) (attribute grid a) steps (grey picture) p)
 
 -- "The index map holds the largest i + 1 attaining it (16 bits), or 0 where it is 0."
-unfoldable pub index-map : ℕ → ℕ → ℕ → List ℕ → List ℕ → List ℕ
-index-map w h a steps picture =
-    table (w * h) (λ (p : ℕ). index-at (w * h) (edge-neighbours w) (attribute w (w * h) a) steps (grey picture) p)
+unfoldable pub index-map : Grid → ℕ → List ℕ → List ℕ → List ℕ
+index-map grid a steps picture =
+    table (pixels grid) (λ (p : ℕ). index-at (pixels grid) (adjacent grid) (attribute grid a) steps (grey picture) p)
 
 -- the tree record of a picture, which every accepted call leaves in the workspace
-abbrev pub record-of : ℕ → ℕ → ℕ → List ℕ → List ℕ
-record-of w h a picture = workspace (w * h) (edge-neighbours w) (attribute w (w * h) a) (grey picture)
+abbrev pub record-of : Grid → ℕ → List ℕ → List ℕ
+record-of grid a picture = workspace (pixels grid) (adjacent grid) (attribute grid a) (grey picture)
 
 -- what a lent run holds after a call: what the call writes if it is accepted; a refusal leaves "all lent memory" as it was
 abbrev pub after : Verdict → List ℕ → List ℕ → List ℕ
 after Accepted written lent = written
 after (Refused cause) written lent = lent
 
--- the workspace after a call on the picture, by the verdict on that call
-unfoldable pub call-workspace : Verdict → ℕ → ℕ → ℕ → List ℕ → List ℕ → List ℕ
-call-workspace verdict w h a picture lent = after verdict (record-of w h a picture) lent
+-- Building: what a call names and is lent.
+pub record Build-call : Type 0 where
+  pub picture : List ℕ
+  pub grid : Grid
+  pub attribute : ℕ
+  pub workspace : List ℕ
+
+-- the same from the parameters of a function, by what they hold at entry
+abbrev pub build-call : {E F : Type 0} → Both (RefT (List ℕ)) E → Grid → ℕ → Both (RefT (List ℕ)) F → Build-call
+build-call picture grid attribute workspace =
+    record { picture = now (picture .entry); grid = grid; attribute = attribute; workspace = now (workspace .entry) }
+
+-- its causes, in order
+abbrev pub build-verdict : Build-call → Verdict
+build-verdict call =
+    judged
+    (picture-tests (call .grid) (length (call .picture)) (call .attribute)
+    ++ workspace-test (call .grid) (length (call .workspace))
+    ∷ [])
 
 -- "Building answers the number of nodes."
 abbrev pub built-by : Verdict → ℕ → Built
 built-by Accepted nodes = Nodes nodes
 built-by (Refused cause) nodes = Not-built cause
 
--- the answer of a building call
-unfoldable pub built : ℕ → ℕ → ℕ → List ℕ → List ℕ → Built
-built w h a picture lent =
-    built-by
-    (build-verdict w h a (length picture) (length lent))
-    (number-of-nodes (w * h) (edge-neighbours w) (grey picture))
+-- its answer
+unfoldable pub built : Build-call → Built
+built call =
+    built-by (build-verdict call) (number-of-nodes (pixels (call .grid)) (adjacent (call .grid)) (grey (call .picture)))
 
 -- "this paper's number and values for each enum case": 0 and the number of nodes, or the number of the cause
 abbrev pub built-numbers : Built → List ℕ
 built-numbers (Nodes nodes) = 0 ∷ nodes ∷ []
 built-numbers (Not-built cause) = number-of cause ∷ []
 
--- the verdict on an opening call and on a map call, with what they are lent
-abbrev pub opening-judged : ℕ → ℕ → ℕ → ℕ → List ℕ → List ℕ → List ℕ → Verdict
-opening-judged w h a t picture lent output = opening-verdict w h a t (length picture) (length lent) (length output)
+-- the workspace after it
+unfoldable pub build-workspace : Build-call → List ℕ
+build-workspace call =
+    after (build-verdict call) (record-of (call .grid) (call .attribute) (call .picture)) (call .workspace)
 
-abbrev pub map-judged : ℕ → ℕ → ℕ → List ℕ → List ℕ → List ℕ → List ℕ → List ℕ → Verdict
-map-judged w h a steps picture lent residues indices =
-    map-verdict w h a steps (length picture) (length lent) (length residues) (length indices)
+-- Opening: what a call names and is lent.
+pub record Open-call : Type 0 where
+  pub picture : List ℕ
+  pub grid : Grid
+  pub attribute : ℕ
+  pub threshold : ℕ
+  pub workspace : List ℕ
+  pub output : List ℕ
 
--- the output after an opening call
-unfoldable pub opening-output : ℕ → ℕ → ℕ → ℕ → List ℕ → List ℕ → List ℕ → List ℕ
-opening-output w h a t picture lent output =
-    after (opening-judged w h a t picture lent output) (opened-picture w h a t picture) output
+abbrev pub open-call : {E F G : Type 0} → Both (RefT (List ℕ)) E → Grid → ℕ → ℕ → Both (RefT (List ℕ)) F → Both (RefT (List ℕ)) G → Open-call
+open-call picture grid attribute threshold workspace output =
+    record {
+      picture = now (picture .entry);
+      grid = grid;
+      attribute = attribute;
+      threshold = threshold;
+      workspace = now (workspace .entry);
+      output = now (output .entry);
+    }
 
--- the residue map and the index map after a map call
-unfoldable pub map-residues : ℕ → ℕ → ℕ → List ℕ → List ℕ → List ℕ → List ℕ → List ℕ → List ℕ
-map-residues w h a steps picture lent residues indices =
-    after (map-judged w h a steps picture lent residues indices) (residue-map w h a steps picture) residues
+-- its causes, in order; the verdict is its answer
+abbrev pub open-verdict : Open-call → Verdict
+open-verdict call =
+    judged
+    (picture-tests (call .grid) (length (call .picture)) (call .attribute)
+    ++ (threshold-good (call .threshold), Steps)
+    ∷ workspace-test (call .grid) (length (call .workspace))
+    ∷ output-test (call .grid) (length (call .output))
+    ∷ [])
 
-unfoldable pub map-indices : ℕ → ℕ → ℕ → List ℕ → List ℕ → List ℕ → List ℕ → List ℕ → List ℕ
-map-indices w h a steps picture lent residues indices =
-    after (map-judged w h a steps picture lent residues indices) (index-map w h a steps picture) indices
+-- the workspace and the output after it
+unfoldable pub open-workspace : Open-call → List ℕ
+open-workspace call =
+    after (open-verdict call) (record-of (call .grid) (call .attribute) (call .picture)) (call .workspace)
+
+unfoldable pub open-output : Open-call → List ℕ
+open-output call =
+    after
+    (open-verdict call)
+    (opened-picture (call .grid) (call .attribute) (call .threshold) (call .picture))
+    (call .output)
+
+-- Mapping: what a call names and is lent.
+pub record Map-call : Type 0 where
+  pub picture : List ℕ
+  pub grid : Grid
+  pub attribute : ℕ
+  pub steps : List ℕ
+  pub workspace : List ℕ
+  pub residue : List ℕ
+  pub index : List ℕ
+
+abbrev pub map-call : {E F G H I : Type 0} → Both (RefT (List ℕ)) E → Grid → ℕ → Both (RefT (List ℕ)) F → Both (RefT (List ℕ)) G → Both (RefT (List ℕ)) H → Both (RefT (List ℕ)) I → Map-call
+map-call picture grid attribute steps workspace residue index =
+    record {
+      picture = now (picture .entry);
+      grid = grid;
+      attribute = attribute;
+      steps = now (steps .entry);
+      workspace = now (workspace .entry);
+      residue = now (residue .entry);
+      index = now (index .entry);
+    }
+
+-- its causes, in order; the verdict is its answer
+abbrev pub map-verdict : Map-call → Verdict
+map-verdict call =
+    judged
+    (picture-tests (call .grid) (length (call .picture)) (call .attribute)
+    ++ (steps-good (call .steps), Steps)
+    ∷ workspace-test (call .grid) (length (call .workspace))
+    ∷ output-test (call .grid) (length (call .residue))
+    ∷ output-test (call .grid) (length (call .index))
+    ∷ [])
+
+-- the workspace and the two maps after it
+unfoldable pub map-workspace : Map-call → List ℕ
+map-workspace call =
+    after (map-verdict call) (record-of (call .grid) (call .attribute) (call .picture)) (call .workspace)
+
+unfoldable pub map-residue : Map-call → List ℕ
+map-residue call =
+    after
+    (map-verdict call)
+    (residue-map (call .grid) (call .attribute) (call .steps) (call .picture))
+    (call .residue)
+
+unfoldable pub map-index : Map-call → List ℕ
+map-index call =
+    after
+    (map-verdict call)
+    (index-map (call .grid) (call .attribute) (call .steps) (call .picture))
+    (call .index)

@@ -1,13 +1,17 @@
 -- When a call on a picture is refused, and for which cause. Only lengths and named numbers decide, never a grey.
 use Prim.Native.Nat.{ℕ, _*_}
-use mathlib.Core.Bool.{Bool, true, false, _&&_, _||_}
-use mathlib.Core.List.{List, [], _∷_}
+use mathlib.Core.Bool.{Bool, true, false, cond, _&&_, _||_}
+use mathlib.Core.List.{List, [], _∷_, _++_}
 use lib.Dec.{leb, eqb}
 use lib.ListN.{length}
 use Rattle.opening.specs.Residue.{rising}
-use Rattle.causes.specs.Causes.{number-of, must}
+use Rattle.grid.specs.Pixels.{pixels}
+use Rattle.grid.specs.declared.Grid.{Grid}
+use Rattle.causes.specs.Bounds.{top-threshold, most-steps, words-a-pixel}
+use Rattle.causes.specs.Causes.{number-of}
 use Rattle.causes.specs.Sides.{sides-fit}
-use Rattle.causes.specs.declared.Cause.the-variants.{Sides, PictureLength, Attribute, Steps, Workspace, Output}
+use Rattle.causes.specs.declared.Cause.{Cause}
+use Rattle.causes.specs.declared.Cause.the-variants.{Sides, PictureLength, Attribute, Workspace, Output}
 use Rattle.calls.specs.declared.Verdict.{Verdict}
 use Rattle.calls.specs.declared.Verdict.the-variants.{Accepted, Refused}
 
@@ -17,7 +21,7 @@ attribute-good attribute = eqb attribute 1 || eqb attribute 2 || eqb attribute 3
 
 -- "threshold t, from 1 to 1,048,577"
 unfoldable pub threshold-good : ℕ → Bool
-threshold-good threshold = leb 1 threshold && leb threshold 1048577
+threshold-good threshold = leb 1 threshold && leb threshold top-threshold
 
 -- "each in the range above"
 unfoldable pub all-good : List ℕ → Bool
@@ -26,40 +30,41 @@ all-good (threshold ∷ rest) = threshold-good threshold && all-good rest
 
 -- "A step list has 1 to 256 thresholds, strictly rising, each in the range above"
 unfoldable pub steps-good : List ℕ → Bool
-steps-good steps = leb 1 (length steps) && leb (length steps) 256 && (rising 0 steps && all-good steps)
+steps-good steps = leb 1 (length steps) && leb (length steps) most-steps && (rising 0 steps && all-good steps)
 
--- "Order for library calls on a picture: 1 to 6." The first cause that applies: the picture's bytes and the workspace's words are
--- counted, thresholds and outputs are judged by the call.
-unfoldable pub call-verdict : ℕ → ℕ → ℕ → ℕ → Bool → ℕ → Bool → Verdict
-call-verdict width height attribute bytes thresholds words outputs =
-    must Refused (sides-fit width height) Sides
-    (must Refused (eqb bytes (width * height)) PictureLength
-    (must Refused (attribute-good attribute) Attribute
-    (must Refused thresholds Steps
-    (must Refused (eqb words (6 * (width * height))) Workspace
-    (must Refused outputs Output
-    Accepted)))))
+-- a test on a call, and the cause that applies where it fails
+abbrev pub Test : Type 0
+Test = Bool × Cause
 
--- a building call, by its width, height, attribute, and the lengths of its picture and workspace
-abbrev pub build-verdict : ℕ → ℕ → ℕ → ℕ → ℕ → Verdict
-build-verdict width height attribute bytes words = call-verdict width height attribute bytes true words true
+-- one test more: it decides where all tests before it held, else the first that failed has decided
+unfoldable pub also : Verdict → Test → Verdict
+also Accepted test = cond (test .0) Accepted (Refused (test .1))
+also (Refused first) test = Refused first
 
--- an opening call, by its width, height, attribute, threshold, and the lengths of its picture, workspace and output
-abbrev pub opening-verdict : ℕ → ℕ → ℕ → ℕ → ℕ → ℕ → ℕ → Verdict
-opening-verdict width height attribute threshold bytes words entries =
-    call-verdict width height attribute bytes (threshold-good threshold) words (eqb entries (width * height))
+-- the verdict after further tests, in their order
+abbrev pub judged-on : Verdict → List Test → Verdict
+judged-on verdict [] = verdict
+judged-on verdict (test ∷ later) = judged-on (also verdict test) later
 
--- a map call, by its width, height, attribute, steps, and the lengths of its picture, workspace, residue map and index map
-abbrev pub map-verdict : ℕ → ℕ → ℕ → List ℕ → ℕ → ℕ → ℕ → ℕ → Verdict
-map-verdict width height attribute steps bytes words residues indices =
-    call-verdict
-    width
-    height
-    attribute
-    bytes
-    (steps-good steps)
-    words
-    (eqb residues (width * height) && eqb indices (width * height))
+-- a call is judged by its tests in order: the first that fails gives the cause
+abbrev pub judged : List Test → Verdict
+judged tests = judged-on Accepted tests
+
+-- "Order for library calls on a picture: 1 to 6." The first three, by the grid, the picture's bytes and the attribute.
+abbrev pub picture-tests : Grid → ℕ → ℕ → List Test
+picture-tests grid bytes attribute =
+    (sides-fit (grid .width) (grid .height), Sides)
+    ∷ (eqb bytes (pixels grid), PictureLength)
+    ∷ (attribute-good attribute, Attribute)
+    ∷ []
+
+-- 5, by the workspace's words
+abbrev pub workspace-test : Grid → ℕ → Test
+workspace-test grid words = (eqb words (words-a-pixel * pixels grid), Workspace)
+
+-- 6, by the entries of an output
+abbrev pub output-test : Grid → ℕ → Test
+output-test grid entries = (eqb entries (pixels grid), Output)
 
 -- "A call is accepted if no cause for refusal applies to it, else refused."
 abbrev pub accepted : Verdict → Bool

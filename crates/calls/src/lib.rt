@@ -2,7 +2,10 @@
 ghost use Prim.Native.Nat.{_*_};
 ghost use mathlib.Core.Path.{_≡_};
 ghost use lib.Dec.{eqb};
-ghost use Rattle.calls.specs.Judging.{attribute-good, threshold-good, steps-good, call-verdict};
+ghost use Rattle.causes.specs.Bounds.{words-a-pixel};
+ghost use Rattle.grid.specs.Pixels.{pixels};
+ghost use Rattle.calls.specs.Judging.{attribute-good, threshold-good, steps-good, also, judged, picture-tests};
+use grid::Grid;
 
 // Whether a call is accepted, and if not the first cause that applies. This is also what an opening call and a map call answer.
 pub enum Verdict {
@@ -14,6 +17,23 @@ pub enum Verdict {
 pub enum Built {
     Nodes(u32),
     Refused(causes::Cause),
+}
+
+// One test more on a call. It decides where all tests before it held.
+pub fn also(verdict: Verdict, good: bool, cause: causes::Cause) -> Verdict
+    ensures { λ r. ⌜ r ≡ also verdict (good, cause) ⌝ }
+{
+    match verdict {
+        Verdict::Refused(first) => {
+            return Verdict::Refused(first);
+        }
+        Verdict::Accepted => {
+            if good {
+                return Verdict::Accepted;
+            }
+            return Verdict::Refused(cause);
+        }
+    }
 }
 
 pub fn attribute_good(attribute: u32) -> bool
@@ -34,7 +54,7 @@ pub fn threshold_good(threshold: u32) -> bool
     if threshold < 1 {
         return false;
     }
-    threshold <= 1048577
+    threshold <= causes::TOP_THRESHOLD
 }
 
 // Whether a list of thresholds is a step list. At most 256 of them are looked at.
@@ -44,7 +64,7 @@ pub fn steps_good(steps: &[u32]) -> bool
     if steps.len() < 1 {
         return false;
     }
-    if 256 < steps.len() {
+    if causes::MOST_STEPS < steps.len() {
         return false;
     }
     let mut low: u32 = 0;
@@ -63,43 +83,40 @@ pub fn steps_good(steps: &[u32]) -> bool
     true
 }
 
-// Whether a lent run has one entry for each pixel. The product of any two sides fits 64 bits.
-pub fn entry_each(width: u32, height: u32, entries: usize) -> bool
-    ensures { λ r. ⌜ r ≡ eqb entries (width * height) ⌝ }
+// Whether a lent run has one entry for each pixel.
+pub fn entry_each(grid: Grid, entries: usize) -> bool
+    ensures { λ r. ⌜ r ≡ eqb entries (pixels grid) ⌝ }
 {
-    entries == (width as usize) * (height as usize)
+    entries == grid::pixels(grid)
 }
 
-// The verdict on a call, by its numbers, the lengths of its picture and workspace, and whether its thresholds and outputs are good.
-pub fn judge(
-    width: u32,
-    height: u32,
-    attribute: u32,
-    bytes: usize,
-    thresholds: bool,
-    words: usize,
-    outputs: bool,
-) -> Verdict
-    ensures { λ r. ⌜ r ≡ call-verdict width height attribute bytes thresholds words outputs ⌝ }
+// Whether a workspace has the words for each pixel. Sides that do not fit may have too many pixels to be multiplied again.
+pub fn words_each(grid: Grid, words: usize) -> bool
+    ensures { λ r. ⌜ r ≡ eqb words (words-a-pixel * pixels grid) ⌝ }
 {
-    if !causes::fit(width, height) {
-        return Verdict::Refused(causes::Cause::Sides);
+    if words % causes::WORDS_A_PIXEL != 0 {
+        return false;
     }
-    let n = (width as usize) * (height as usize);
-    if bytes != n {
-        return Verdict::Refused(causes::Cause::PictureLength);
-    }
-    if !attribute_good(attribute) {
-        return Verdict::Refused(causes::Cause::Attribute);
-    }
-    if !thresholds {
-        return Verdict::Refused(causes::Cause::Steps);
-    }
-    if words != 6 * n {
-        return Verdict::Refused(causes::Cause::Workspace);
-    }
-    if !outputs {
-        return Verdict::Refused(causes::Cause::Output);
-    }
-    Verdict::Accepted
+    words / causes::WORDS_A_PIXEL == grid::pixels(grid)
+}
+
+// The tests that every call on a picture starts with: its sides, its picture's bytes and its attribute.
+pub fn judge_picture(grid: Grid, bytes: usize, attribute: u32) -> Verdict
+    ensures { λ r. ⌜ r ≡ judged (picture-tests grid bytes attribute) ⌝ }
+{
+    let by_sides = also(
+        Verdict::Accepted,
+        causes::fit(grid.width, grid.height),
+        causes::Cause::Sides,
+    );
+    let by_bytes = also(
+        by_sides,
+        entry_each(grid, bytes),
+        causes::Cause::PictureLength,
+    );
+    also(
+        by_bytes,
+        attribute_good(attribute),
+        causes::Cause::Attribute,
+    )
 }

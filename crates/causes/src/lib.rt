@@ -3,6 +3,17 @@ ghost use mathlib.Core.Path.{_≡_};
 ghost use Rattle.causes.specs.Causes.{number-of};
 ghost use Rattle.causes.specs.Sides.{sides-fit};
 
+// The bounds of specs/Bounds.antt.
+pub const LONGEST_SIDE: u32 = 4096;
+
+pub const MOST_PIXELS: u32 = 1048576;
+
+pub const TOP_THRESHOLD: u32 = 1048577;
+
+pub const MOST_STEPS: usize = 256;
+
+pub const WORDS_A_PIXEL: usize = 6;
+
 pub enum Cause {
     Sides,
     PictureLength,
@@ -50,14 +61,14 @@ pub fn fit(width: u32, height: u32) -> bool
     if width < 1 {
         return false;
     }
-    if 4096 < width {
+    if LONGEST_SIDE < width {
         return false;
     }
     if height < 1 {
         return false;
     }
-    if 4096 < height {
+    if LONGEST_SIDE < height {
         return false;
     }
-    width * height <= 1048576
+    width * height <= MOST_PIXELS
 }

@@ -1,0 +1,46 @@
+-- `calls::judge_picture` meets its contract. Assumes nothing.
+use mathlib.Core.Path.{refl}
+use Rattle.calls.proofs.Judging.{tested}
+use borrow.Author.Needs.{needs}
+use Rattle.calls.proofs.judge_picture.Statement.{statement}
+use Rattle.calls.proofs.judge_picture.Tie as tie
+
+fit-requires : tie.Need-fit-requires
+fit-requires c κs = search needs
+
+also-requires : tie.Need-also-requires
+also-requires c κs = search needs
+
+entry-each-requires : tie.Need-entry-each-requires
+entry-each-requires c κs = search needs
+
+also-requires-2 : tie.Need-also-requires-2
+also-requires-2 c κs = search needs
+
+attribute-good-requires : tie.Need-attribute-good-requires
+attribute-good-requires c κs = search needs
+
+also-requires-3 : tie.Need-also-requires-3
+also-requires-3 c κs = search needs
+
+returns : tie.Need-returns
+returns c =
+    tested _
+    (c .also3 .ensures)
+    (tested _
+    (c .before .before .also2 .ensures)
+    (tested _ (c .before .before .before .before .also .ensures) refl (c .before .before .before .before .before .fit .ensures))
+    (c .before .before .before .entry-each .ensures))
+    (c .before .attribute-good .ensures)
+
+pub judge-picture-spec : {M : Type 1} → statement M
+judge-picture-spec =
+    tie.close
+    (tie.spec
+    fit-requires
+    also-requires
+    entry-each-requires
+    also-requires-2
+    attribute-good-requires
+    also-requires-3
+    returns)
