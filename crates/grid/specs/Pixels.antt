@@ -5,3 +5,7 @@ use Rattle.grid.specs.declared.Grid.{Grid}
 -- "pixels n = width × height"
 abbrev pub pixels : Grid → ℕ
 pixels grid = grid .width * grid .height
+
+-- the grid with these sides
+abbrev pub grid-of : ℕ → ℕ → Grid
+grid-of width height = record { width = width; height = height }
