@@ -1,5 +1,5 @@
 -- The claim about whole chains: a chain's picture against the single opening, both as levelings, and the chain's maps.
-use Prim.Native.Nat.{ℕ, _*_, _≤_, _<_}
+use Prim.Native.Nat.{ℕ, _≤_, _<_}
 use mathlib.Core.Bool.{true, false}
 use mathlib.Core.List.{List, [], _∷_}
 use mathlib.Core.Logic.{_↔_}
@@ -7,9 +7,11 @@ use mathlib.Core.Path.{_≡_, refl, sym, _∙_, ap, subst}
 use native.Mathlib.Omega.{arith}
 use Rattle.sets.proofs.Laws.{table-ext}
 use Rattle.sets.specs.Sets.{member}
-use Rattle.grid.specs.Neighbours.{edge-neighbours}
+use Rattle.grid.specs.Pixels.{pixels}
+use Rattle.grid.specs.Neighbours.{adjacent}
 use Rattle.grid.specs.Attributes.{attribute}
-use Rattle.grid.proofs.Attributes.{edge-symmetric, attribute-increasing}
+use Rattle.grid.specs.declared.Grid.{Grid}
+use Rattle.grid.proofs.Attributes.{adjacent-symmetric, attribute-increasing}
 use Rattle.grid.proofs.Whole.{grid-whole}
 use Rattle.opening.specs.Opening.{at-least, component-at, least-grey}
 use Rattle.opening.specs.Leveling.{Leveling}
@@ -25,8 +27,8 @@ use Rattle.calls.specs.Judging.{steps-good, accepted as is-accepted, verdict-nu
 use Rattle.calls.specs.declared.Verdict.{Verdict}
 use Rattle.calls.specs.declared.Verdict.the-variants.{Accepted, Refused}
 use Rattle.calls.proofs.Accepted.{bounded, step-list}
-use Rattle.calls.specs.Calls.{grey, opening, opening-judged, opening-output, map-judged, map-residues, map-indices, residue-map, index-map}
-use Rattle.chain.specs.Chain.{Call, verdict, accepted, answered, handed-on, Chain, Claim, Named, Equal, Whole, No-node-between, chain-picture, accepted-thresholds, largest-threshold, chain-falls, chain-residues, chain-indices}
+use Rattle.calls.specs.Calls.{grey, opening, open-verdict, open-output, Map-call, map-verdict, map-residue, map-index, residue-map, index-map}
+use Rattle.chain.specs.Chain.{Call, opening-of, mapping-of, verdict, accepted, answered, handed-on, Chain, Claim, Named, Equal, Whole, No-node-between, chain-picture, accepted-thresholds, largest-threshold, chain-falls, chain-residues, chain-indices}
 use Rattle.chain.proofs.Handed.{Opened-at, opened-picture-at, output-accepted, handed-refused, chain-opened, chain-falls-openings, chain-falls-total}
 
 -- what a refused call answers
@@ -43,81 +45,80 @@ refused-answer given call refused =
     (cause, judged, number, handed-refused given call refused)
 
 -- the node of a pixel is the whole picture exactly where the pixel has the least grey
-root-exactly : (w h : ℕ) (picture : List ℕ) → 1 ≤ w → (p : ℕ) → p < w * h
-    → grey picture p ≡ least-grey (w * h) (grey picture) ↔ Whole w h picture p
-root-exactly w h picture wide p below = (
+root-exactly : (grid : Grid) (picture : List ℕ) → 1 ≤ grid .width → (p : ℕ) → p < pixels grid
+    → grey picture p ≡ least-grey (pixels grid) (grey picture) ↔ Whole grid picture p
+root-exactly grid picture wide p below = (
   (λ e q q-below.
       subst
-      (λ (k : ℕ). member (component-at (w * h) (edge-neighbours w) (grey picture) k p) q ≡ true)
+      (λ (k : ℕ). member (component-at (pixels grid) (adjacent grid) (grey picture) k p) q ≡ true)
       (sym e)
-      (grid-whole w wide (w * h) (grey picture) p q below q-below)),
+      (grid-whole grid wide (grey picture) p q below q-below)),
   (λ whole.
-      let (q, q-below, least) = least-grey-attained (w * h) (grey picture) (omega arith) in
+      let (q, q-below, least) = least-grey-attained (pixels grid) (grey picture) (omega arith) in
       let over : grey picture p ≤ grey picture q =
-      component-grey (w * h) (edge-neighbours w) (grey picture) (grey picture p) p q (whole q q-below) in
-      omega (arith, least-grey-le (w * h) (grey picture) p below)),
+      component-grey (pixels grid) (adjacent grid) (grey picture) (grey picture p) p q (whole q q-below) in
+      omega (arith, least-grey-le (pixels grid) (grey picture) p below)),
 )
 
 -- what an accepted map call writes
-maps-accepted : (w h a : ℕ) (steps picture workspace residues indices : List ℕ)
-    → map-judged w h a steps picture workspace residues indices ≡ Accepted
-    → (map-residues w h a steps picture workspace residues indices ≡ residue-map w h a steps picture)
-    × (map-indices w h a steps picture workspace residues indices ≡ index-map w h a steps picture)
-unfolding map-residues map-indices
-maps-accepted w h a steps picture workspace residues indices ok = (rw ok, rw ok)
+maps-accepted : (call : Map-call) → map-verdict call ≡ Accepted
+    → (map-residue call ≡ residue-map (call .grid) (call .attribute) (call .steps) (call .picture))
+    × (map-index call ≡ index-map (call .grid) (call .attribute) (call .steps) (call .picture))
+unfolding map-residue map-index
+maps-accepted call ok = (rw ok, rw ok)
 
-module _ (w h a : ℕ) (original : List ℕ) where
+module _ (grid : Grid) (a : ℕ) (original : List ℕ) where
   -- the original is its opening at 0
-  original-opened : Opened-at w h a 0 (grey original) original
-  original-opened p below = sym (opened-zero (w * h) (edge-neighbours w) (attribute w (w * h) a) (grey original) p below)
+  original-opened : Opened-at grid a 0 (grey original) original
+  original-opened p below = sym (opened-zero (pixels grid) (adjacent grid) (attribute grid a) (grey original) p below)
 
   -- a picture that is the opening at some threshold is a leveling
-  opened-at-leveling : (t : ℕ) (picture : List ℕ) → Opened-at w h a t (grey original) picture
-      → Leveling (w * h) (edge-neighbours w) (grey original) (grey picture)
+  opened-at-leveling : (t : ℕ) (picture : List ℕ) → Opened-at grid a t (grey original) picture
+      → Leveling (pixels grid) (adjacent grid) (grey original) (grey picture)
   opened-at-leveling t picture at =
       leveling-ext
-      (w * h)
-      (edge-neighbours w)
+      (pixels grid)
+      (adjacent grid)
       (grey original)
-      (opening w h a t (grey original))
+      (opening grid a t (grey original))
       (grey picture)
       (λ p below. sym (at p below))
       (opened-leveling
-      (w * h)
-      (edge-neighbours w)
-      (edge-symmetric w)
-      (at-least (attribute w (w * h) a) t)
-      (at-least-up (w * h) (attribute w (w * h) a) (attribute-increasing w (w * h) a) t)
+      (pixels grid)
+      (adjacent grid)
+      (adjacent-symmetric grid)
+      (at-least (attribute grid a) t)
+      (at-least-up (pixels grid) (attribute grid a) (attribute-increasing grid a) t)
       (grey original))
 
   -- the single opening is the opening at its threshold
-  single-opened : (t : ℕ) (workspace output : List ℕ) → opening-judged w h a t original workspace output ≡ Accepted
-      → Opened-at w h a t (grey original) (opening-output w h a t original workspace output)
+  single-opened : (t : ℕ) (workspace output : List ℕ) → open-verdict (opening-of original grid a t workspace output) ≡ Accepted
+      → Opened-at grid a t (grey original) (open-output (opening-of original grid a t workspace output))
   single-opened t workspace output ok =
       subst
-      (Opened-at w h a t (grey original))
-      (sym (output-accepted w h a t original workspace output ok))
-      (opened-picture-at w h a t original)
+      (Opened-at grid a t (grey original))
+      (sym (output-accepted (opening-of original grid a t workspace output) ok))
+      (opened-picture-at grid a t original)
 
-  module _ (calls : List Call) (named : Named w h a original calls) where
+  module _ (calls : List Call) (named : Named grid a original calls) where
     -- the chain's picture is the opening at its largest threshold
-    chain-is-opened : Opened-at w h a (largest-threshold original calls) (grey original) (chain-picture original calls)
+    chain-is-opened : Opened-at grid a (largest-threshold original calls) (grey original) (chain-picture original calls)
     chain-is-opened =
         subst
-        (λ (k : ℕ). Opened-at w h a k (grey original) (chain-picture original calls))
+        (λ (k : ℕ). Opened-at grid a k (grey original) (chain-picture original calls))
         (omega arith)
-        (chain-opened w h a 0 (grey original) original calls named original-opened)
+        (chain-opened grid a 0 (grey original) original calls named original-opened)
 
-    chain-equal : (t : ℕ) (single : List ℕ) → Opened-at w h a t (grey original) single
-        → Equal (w * h) (chain-picture original calls) single ↔ No-node-between w h a original t (largest-threshold original calls)
+    chain-equal : (t : ℕ) (single : List ℕ) → Opened-at grid a t (grey original) single
+        → Equal (pixels grid) (chain-picture original calls) single ↔ No-node-between grid a original t (largest-threshold original calls)
     chain-equal t single at =
         let agree =
         opened-equal
-        (w * h)
-        (edge-neighbours w)
-        (edge-symmetric w)
-        (attribute w (w * h) a)
-        (attribute-increasing w (w * h) a)
+        (pixels grid)
+        (adjacent grid)
+        (adjacent-symmetric grid)
+        (attribute grid a)
+        (attribute-increasing grid a)
         (grey original)
         t
         (largest-threshold original calls) in (
@@ -133,17 +134,16 @@ module _ (w h a : ℕ) (original : List ℕ) where
 
     -- where the thresholds are a step list, the falls of the chain are the residues of the original
     module _ (steps : List ℕ) (thresholds : accepted-thresholds original calls ≡ steps) (good : steps-good steps ≡ true) where
-      falls-residues : (p : ℕ) → p < w * h
+      falls-residues : (p : ℕ) → p < pixels grid
           → chain-falls original calls p
           ≡ falls-from
           (grey original p)
-          (openings-at (w * h) (edge-neighbours w) (attribute w (w * h) a) steps (grey original) p)
+          (openings-at (pixels grid) (adjacent grid) (attribute grid a) steps (grey original) p)
       falls-residues p below =
           rw
           (← thresholds, original-opened p below)
           (chain-falls-openings
-          w
-          h
+          grid
           a
           0
           (grey original)
@@ -155,34 +155,34 @@ module _ (w h a : ℕ) (original : List ℕ) where
           p
           below)
 
-      chain-maps : (chain-residues (w * h) original calls ≡ residue-map w h a steps original)
-          × (chain-indices (w * h) original calls ≡ index-map w h a steps original)
+      chain-maps : (chain-residues (pixels grid) original calls ≡ residue-map grid a steps original)
+          × (chain-indices (pixels grid) original calls ≡ index-map grid a steps original)
       unfolding chain-residues chain-indices residue-map index-map residue-at index-at
       chain-maps = (
-        table-ext (w * h) _ _ (λ p below. ap largest (falls-residues p below)),
-        table-ext (w * h) _ _ (λ p below. ap largest-place (falls-residues p below)),
+        table-ext (pixels grid) _ _ (λ p below. ap largest (falls-residues p below)),
+        table-ext (pixels grid) _ _ (λ p below. ap largest-place (falls-residues p below)),
       )
 
   -- Demand 3: for every chain, and every single opening and map call that it is compared with.
-  pub chain-claim : (calls : List Call) → Chain w h a original calls → Claim w h a original calls
+  pub chain-claim : (calls : List Call) → Chain grid a original calls → Claim grid a original calls
   chain-claim calls chain =
       record {
         refused = refused-answer;
-        root = root-exactly w h original (bounded w h (chain .sides) .wide);
+        root = root-exactly grid original (bounded (grid .width) (grid .height) (chain .sides) .wide);
         equal = λ t workspace output ok.
             chain-equal
             calls
             (chain .named)
             t
-            (opening-output w h a t original workspace output)
+            (open-output (opening-of original grid a t workspace output))
             (single-opened t workspace output ok);
         chain-leveling =
             opened-at-leveling (largest-threshold original calls) (chain-picture original calls) (chain-is-opened calls (chain .named));
         single-leveling = λ t workspace output ok.
-            opened-at-leveling t (opening-output w h a t original workspace output) (single-opened t workspace output ok);
-        falls = chain-falls-total w h a original calls (chain .named);
-        maps = λ steps thresholds good workspace residues indices ok.
+            opened-at-leveling t (open-output (opening-of original grid a t workspace output)) (single-opened t workspace output ok);
+        falls = chain-falls-total grid a original calls (chain .named);
+        maps = λ steps thresholds good workspace residue index ok.
             let (same-residues, same-indices) = chain-maps calls (chain .named) steps thresholds good in
-            let (written-residues, written-indices) = maps-accepted w h a steps original workspace residues indices ok in
+            let (written-residues, written-indices) = maps-accepted (mapping-of original grid a steps workspace residue index) ok in
             (same-residues ∙ sym written-residues, same-indices ∙ sym written-indices);
       }

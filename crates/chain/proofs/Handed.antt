@@ -1,6 +1,6 @@
 -- What the calls of a chain hand on: each picture of a chain is the opening of the original at the largest threshold accepted so far, and
 -- the falls of a pixel are those of its openings.
-use Prim.Native.Nat.{ℕ, _*_, _+_, _-_, _≤_, _<_, max}
+use Prim.Native.Nat.{ℕ, _+_, _-_, _≤_, _<_, max}
 use mathlib.Core.Bool.{Bool, true, false, cond}
 use mathlib.Core.List.{List, [], _∷_}
 use mathlib.Core.Path.{_≡_, refl, _∙_, ap, subst}
@@ -9,29 +9,29 @@ use lib.Dec.{leb, ltb}
 use borrow.Author.Tests.{leb-true, leb-false, ltb-true}
 use Rattle.sets.proofs.Laws.{table-at}
 use Rattle.sets.proofs.Tests.{and-left, and-right}
-use Rattle.grid.specs.Neighbours.{edge-neighbours}
+use Rattle.grid.specs.Pixels.{pixels}
+use Rattle.grid.specs.Neighbours.{adjacent}
 use Rattle.grid.specs.Attributes.{attribute}
-use Rattle.grid.proofs.Attributes.{edge-symmetric, attribute-increasing}
+use Rattle.grid.specs.declared.Grid.{Grid}
+use Rattle.grid.proofs.Attributes.{adjacent-symmetric, attribute-increasing}
 use Rattle.opening.specs.Opening.{at-least}
 use Rattle.opening.specs.Residue.{falls-from, total, largest, rising, openings-at}
 use Rattle.opening.proofs.Levels.{cond-case}
 use Rattle.opening.proofs.Opened.{opened-le}
 use Rattle.opening.proofs.Threshold.{opened-after}
-use Rattle.calls.specs.Calls.{grey, opening, opened-picture, opening-judged, opening-output}
+use Rattle.calls.specs.Calls.{grey, opening, opened-picture, Open-call, open-verdict, open-output}
 use Rattle.calls.proofs.Accepted.{accepted-verdict}
 use Rattle.calls.specs.declared.Verdict.the-variants.{Accepted}
-use Rattle.chain.specs.Chain.{Call, verdict, accepted, handed-on, chain-picture, accepted-thresholds, chain-falls, Named}
+use Rattle.chain.specs.Chain.{Call, given-to, verdict, accepted, handed-on, chain-picture, accepted-thresholds, chain-falls, Named}
 
 -- the output of an accepted opening call is the opened picture
-pub output-accepted : (w h a t : ℕ) (picture workspace output : List ℕ) → opening-judged w h a t picture workspace output ≡ Accepted
-    → opening-output w h a t picture workspace output ≡ opened-picture w h a t picture
-unfolding opening-output
-output-accepted w h a t picture workspace output ok = rw ok
+pub output-accepted : (call : Open-call) → open-verdict call ≡ Accepted
+    → open-output call ≡ opened-picture (call .grid) (call .attribute) (call .threshold) (call .picture)
+unfolding open-output
+output-accepted call ok = rw ok
 
 -- an accepted call of a chain hands on its output
-handed-output : (given : List ℕ) (call : Call) → accepted given call ≡ true
-    → handed-on given call
-    ≡ opening-output (call .width) (call .height) (call .attribute) (call .threshold) given (call .workspace) (call .output)
+handed-output : (given : List ℕ) (call : Call) → accepted given call ≡ true → handed-on given call ≡ open-output (given-to given call)
 unfolding handed-on
 handed-output given call ok = rw ok
 
@@ -49,35 +49,35 @@ largest-cons t rest =
     (λ e. omega (arith, leb-true (largest rest) t e))
     (λ e. omega (arith, leb-false (largest rest) t e))
 
-module _ (w h a : ℕ) where
+module _ (grid : Grid) (a : ℕ) where
   -- the greys of an opened picture
-  pub opened-picture-at : (t : ℕ) (picture : List ℕ) (p : ℕ) → p < w * h
-      → grey (opened-picture w h a t picture) p ≡ opening w h a t (grey picture) p
+  pub opened-picture-at : (t : ℕ) (picture : List ℕ) (p : ℕ) → p < pixels grid
+      → grey (opened-picture grid a t picture) p ≡ opening grid a t (grey picture) p
   unfolding opened-picture
-  opened-picture-at t picture p below = table-at (w * h) (opening w h a t (grey picture)) p 0 below
+  opened-picture-at t picture p below = table-at (pixels grid) (opening grid a t (grey picture)) p 0 below
 
   -- a picture has the greys of the opening of g at t
   abbrev pub Opened-at : ℕ → (ℕ → ℕ) → List ℕ → Type 0
-  Opened-at t g picture = (p : ℕ) → p < w * h → grey picture p ≡ opening w h a t g p
+  Opened-at t g picture = (p : ℕ) → p < pixels grid → grey picture p ≡ opening grid a t g p
 
   module _ (given : List ℕ) (call : Call)
-      (named : accepted given call ≡ true → (call .width ≡ w) × (call .height ≡ h) × (call .attribute ≡ a))
+      (named : accepted given call ≡ true → (call .grid ≡ grid) × (call .attribute ≡ a))
       (ok : accepted given call ≡ true) where
     -- an accepted call that names what the chain names hands on the opened picture
-    handed-accepted : handed-on given call ≡ opened-picture w h a (call .threshold) given
+    handed-accepted : handed-on given call ≡ opened-picture grid a (call .threshold) given
     unfolding accepted
     handed-accepted =
-        let (same-w, same-h, same-a) = named ok in
+        let (same-grid, same-attribute) = named ok in
         handed-output given call ok
-        ∙ output-accepted _ _ _ _ given (call .workspace) (call .output) (accepted-verdict (verdict given call) ok)
-        ∙ rw (same-w, same-h, same-a)
+        ∙ output-accepted (given-to given call) (accepted-verdict (verdict given call) ok)
+        ∙ rw (same-grid, same-attribute)
 
     -- it raises no grey
-    handed-le : (p : ℕ) → p < w * h → grey (handed-on given call) p ≤ grey given p
+    handed-le : (p : ℕ) → p < pixels grid → grey (handed-on given call) p ≤ grey given p
     handed-le p below =
         rw
         (handed-accepted, opened-picture-at (call .threshold) given p below)
-        (opened-le (w * h) (edge-neighbours w) (at-least (attribute w (w * h) a) (call .threshold)) (grey given) p below)
+        (opened-le (pixels grid) (adjacent grid) (at-least (attribute grid a) (call .threshold)) (grey given) p below)
 
     -- and takes an opening on to the larger threshold
     handed-opened : (s : ℕ) (g : ℕ → ℕ) → Opened-at s g given → Opened-at (max s (call .threshold)) g (handed-on given call)
@@ -86,11 +86,11 @@ module _ (w h a : ℕ) where
         handed-accepted
         (opened-picture-at (call .threshold) given p below
         ∙ opened-after
-        (w * h)
-        (edge-neighbours w)
-        (attribute w (w * h) a)
-        (attribute-increasing w (w * h) a)
-        (edge-symmetric w)
+        (pixels grid)
+        (adjacent grid)
+        (attribute grid a)
+        (attribute-increasing grid a)
+        (adjacent-symmetric grid)
         s
         (call .threshold)
         (grey given)
@@ -100,7 +100,7 @@ module _ (w h a : ℕ) where
         below)
 
   -- a chain of calls opens at the largest of their thresholds
-  pub chain-opened : (s : ℕ) (g : ℕ → ℕ) (given : List ℕ) (calls : List Call) → Named w h a given calls → Opened-at s g given
+  pub chain-opened : (s : ℕ) (g : ℕ → ℕ) (given : List ℕ) (calls : List Call) → Named grid a given calls → Opened-at s g given
       → Opened-at (max s (largest (accepted-thresholds given calls))) g (chain-picture given calls)
   unfolding Named chain-picture accepted-thresholds largest
   chain-opened s g given [] named at = subst (λ (k : ℕ). Opened-at k g given) (omega arith) at
@@ -123,7 +123,7 @@ module _ (w h a : ℕ) where
       chain-opened s g (handed-on given call) rest (named .1) (rw (handed-refused given call refused) at))
 
   -- every fall is a true difference: the falls of a pixel and its grey in the chain's picture add up to the grey it had
-  pub chain-falls-total : (given : List ℕ) (calls : List Call) → Named w h a given calls → (p : ℕ) → p < w * h
+  pub chain-falls-total : (given : List ℕ) (calls : List Call) → Named grid a given calls → (p : ℕ) → p < pixels grid
       → total (chain-falls given calls p) + grey (chain-picture given calls) p ≡ grey given p
   unfolding Named chain-picture chain-falls total
   chain-falls-total given [] named p below = omega arith
@@ -140,11 +140,11 @@ module _ (w h a : ℕ) where
   -- the falls of p along the openings of g, from the opening at s on
   abbrev pub opening-falls : ℕ → List ℕ → (ℕ → ℕ) → ℕ → List ℕ
   opening-falls s steps g p =
-      falls-from (opening w h a s g p) (openings-at (w * h) (edge-neighbours w) (attribute w (w * h) a) steps g p)
+      falls-from (opening grid a s g p) (openings-at (pixels grid) (adjacent grid) (attribute grid a) steps g p)
 
   -- where the thresholds rise, the falls of a pixel are those of its openings
-  pub chain-falls-openings : (s : ℕ) (g : ℕ → ℕ) (given : List ℕ) (calls : List Call) → Named w h a given calls
-      → Opened-at s g given → rising s (accepted-thresholds given calls) ≡ true → (p : ℕ) → p < w * h
+  pub chain-falls-openings : (s : ℕ) (g : ℕ → ℕ) (given : List ℕ) (calls : List Call) → Named grid a given calls
+      → Opened-at s g given → rising s (accepted-thresholds given calls) ≡ true → (p : ℕ) → p < pixels grid
       → chain-falls given calls p ≡ opening-falls s (accepted-thresholds given calls) g p
   unfolding Named chain-falls accepted-thresholds falls-from rising
   chain-falls-openings s g given [] named at up p below = refl
