@@ -2,13 +2,14 @@
 use Prim.Native.Nat.{ℕ, suc, _+_, _-_, _/_, _%_, _^_, _≤_, _<_}
 use mathlib.Core.List.{List, _++_}
 use mathlib.Core.Path.{_≡_, refl, _∙_}
-use native.Mathlib.Nat.{zero-div}
+use native.Mathlib.Nat.{mul-pos, zero-div}
 use native.Mathlib.Omega.{arith}
 use lib.Dec.{ltb}
 use lib.ListN.{getD, length, set, length-set, take, drop, replicate, length-append, length-take, length-drop, length-replicate, getD-replicate, List·getD-append}
 use lib.Seq.{getD-set-same, getD-set-other}
 use Rattle.sets.proofs.Laws.{count-le}
-use Rattle.grid.specs.Neighbours.{edge-neighbours}
+use Rattle.grid.specs.Neighbours.{adjacent}
+use Rattle.grid.specs.declared.Grid.{Grid}
 use Rattle.flood.specs.Flooding.{state-of, darker}
 use Rattle.flood.specs.Levels.{grey, total, level-counts, starts-of}
 use Rattle.flood.specs.Marks.{Marked}
@@ -17,6 +18,10 @@ use Rattle.flood.proofs.Counts.{by-cases, equal-or-not}
 use Rattle.flood.proofs.Meeting.{tail-lt}
 use Rattle.flood.proofs.Beginning.{Untouched, begins, first-sound, first-at}
 use Rattle.flood.proofs.Tables.{table-long, table-read, total-darker}
+
+-- there is a first pixel
+pub some-pixel : {grid : Grid} {picture ws : List ℕ} → Floodable grid picture ws → 0 < length picture
+some-pixel F = rw (F .whole) (mul-pos (F .wide) (F .high))
 
 -- all counts add up to the pixels
 pub counts-fit :
@@ -89,10 +94,13 @@ none-marked n =
       closed-clear = λ k h e. rw (emptied n .word (k / 64) (omega arith), zero-div (2 ^ (k % 64))) refl;
     }
 
-module _ {w : ℕ} {picture ws ws₁ counts starts : List ℕ} (F : Floodable w picture ws) (bytes : (x : ℕ) → grey picture x < 256)
+module _ {grid : Grid} {picture ws ws₁ counts starts : List ℕ} (F : Floodable grid picture ws) (bytes : (x : ℕ) → grey picture x < 256)
     (C : counts ≡ level-counts (length picture) picture) (T : starts ≡ starts-of counts) (size : Sized (length picture) ws₁)
     (unmet-all : (q : ℕ) → q < length picture → getD ws₁ q 0 ≡ length picture)
   where
+    some : 0 < length picture
+    some = some-pixel F
+
     at-start : (k : ℕ) → k < 256 → getD starts k 0 ≡ darker (length picture) (grey picture) k
     at-start k h = table-read _ T k h ∙ total-darker picture counts (length picture) C k (omega arith)
 
@@ -113,10 +121,10 @@ module _ {w : ℕ} {picture ws ws₁ counts starts : List ℕ} (F : Floodable w 
     first-fits =
         record {
           sized = size;
-          within = F .some;
+          within = some;
           level = bytes 0;
           free =
-              tail-lt (begins untouched {adj = edge-neighbours w}) (bytes 0) (F .some) (unmet-all 0 (F .some));
+              tail-lt (begins untouched {adj = adjacent grid}) (bytes 0) some (unmet-all 0 some);
           root = omega (arith, untouched .closed-all (grey picture 0) (bytes 0));
           wide-tails = table-long _ T;
           wide-roots = emptied (length picture) .wide;
@@ -126,17 +134,17 @@ module _ {w : ℕ} {picture ws ws₁ counts starts : List ℕ} (F : Floodable w 
     pub first-ready :
         {ws₂ tails roots : List ℕ}
         → Placing (length picture) 0 (grey picture 0) ws₁ starts (none-open (length picture)) ws₂ tails roots
-        → length ws₂ ≡ length ws₁ → Ready w picture ws₂ starts tails roots (grey picture 0)
+        → length ws₂ ≡ length ws₁ → Ready grid picture ws₂ starts tails roots (grey picture 0)
     first-ready P same-length =
         record {
           bytes = bytes;
-          columns = F .columns;
           whole = F .whole;
+          wide = F .wide;
           sized = record { words = same-length ∙ size .words; small = size .small };
           wide-heads = table-long _ T;
           wide-tails = P .wide-tails;
           wide-roots = P .wide-roots;
           marks = P .marks;
-          sound = first-sound untouched (λ x h. bytes x) (F .some) (P .step starts);
-          at = first-at untouched (λ x h. bytes x) (F .some) (P .step starts);
+          sound = first-sound untouched (λ x h. bytes x) some (P .step starts);
+          at = first-at untouched (λ x h. bytes x) some (P .step starts);
         }

@@ -1,6 +1,6 @@
 -- A step of the flood on the lists: a brighter neighbour moves it up, else the head moves on, and an empty level is closed.
 use Prim.Native.Nat.{ℕ, suc, _+_, _*_, _-_, _≤_, _<_}
-use mathlib.Core.Bool.{true, _||_}
+use mathlib.Core.Bool.{true}
 use mathlib.Core.List.{List}
 use mathlib.Core.Logic.{_⊎_, inl, inr}
 use mathlib.Core.Path.{_≡_, refl, _∙_}
@@ -8,13 +8,13 @@ use native.Mathlib.Numerals.{add-one}
 use native.Mathlib.Omega.{arith}
 use lib.ListN.{getD, length, set, length-set}
 use Rattle.sets.specs.Sets.{Positions}
-use Rattle.sets.proofs.Tests.{or-left, or-right}
-use Rattle.grid.specs.Neighbours.{next-in-row, next-in-column, edge-neighbours}
-use Rattle.grid.proofs.Attributes.{edge-symmetric}
-use Rattle.grid.proofs.Sides.{side-of, neighbour-before}
+use Rattle.grid.specs.Neighbours.{adjacent}
+use Rattle.grid.specs.declared.Grid.{Grid}
+use Rattle.grid.proofs.Attributes.{adjacent-symmetric}
+use Rattle.grid.proofs.Sides.{adjacent-before}
 use Rattle.flood.specs.Flooding.{state-of, Sound, Changed}
 use Rattle.flood.specs.Levels.{grey}
-use Rattle.flood.specs.Calls.{head-pixel, around, Ready, Standing, Visited, NoneOpen, Closable, ClosedBelow, spent, FloodedBy, Outcome, Stepped}
+use Rattle.flood.specs.Calls.{head-pixel, Ready, Standing, Visited, NoneOpen, Closable, ClosedBelow, spent, FloodedBy, Outcome, Stepped}
 use Rattle.flood.proofs.Counts.{by-cases}
 use Rattle.flood.proofs.Meeting.{tail-le}
 use Rattle.flood.proofs.Visits.{settle}
@@ -29,9 +29,9 @@ advanced heads l = set heads l (getD heads l 0 + 1)
 
 -- a head is a place in part 3
 pub head-in :
-    {w : ℕ} {picture ws heads tails roots : List ℕ} {l : ℕ} → Ready w picture ws heads tails roots l
+    {grid : Grid} {picture ws heads tails roots : List ℕ} {l : ℕ} → Ready grid picture ws heads tails roots l
     → getD heads l 0 < length picture
-head-in {w} {picture} {ws} {heads} {tails} {roots} {l} R =
+head-in {l = l} R =
     let A = R .at in
     omega (
       arith,
@@ -40,46 +40,33 @@ head-in {w} {picture} {ws} {heads} {tails} {roots} {l} R =
     )
 
 pub start-standing :
-    {w : ℕ} {picture ws heads tails roots : List ℕ} {l : ℕ} → Ready w picture ws heads tails roots l
-    → Standing w picture ws heads tails roots l (head-pixel (length picture) ws heads l)
+    {grid : Grid} {picture ws heads tails roots : List ℕ} {l : ℕ} → Ready grid picture ws heads tails roots l
+    → Standing grid picture ws heads tails roots l (head-pixel (length picture) ws heads l)
 start-standing R = record { ready = R; here = refl }
 
 -- after a visit that stays, the same pixel is at the head
 pub still :
-    {w : ℕ} {picture ws heads tails roots ws' tails' roots' : List ℕ} {l r p : ℕ} {side : Positions}
-    → Visited w picture ws heads tails roots ws' tails' roots' l r side → r ≡ l → Standing w picture ws heads tails roots l p
-    → Standing w picture ws' heads tails' roots' l p
+    {grid : Grid} {picture ws heads tails roots ws' tails' roots' : List ℕ} {l r p : ℕ} {side : Positions}
+    → Visited grid picture ws heads tails roots ws' tails' roots' l r side → r ≡ l → Standing grid picture ws heads tails roots l p
+    → Standing grid picture ws' heads tails' roots' l p
 still U e S =
     record { ready = settle U e .ready; here = U .same-head ∙ S .here }
 
-module _ {w : ℕ} {picture ws heads tails roots ws' tails' roots' : List ℕ} {l : ℕ} where
+module _ {grid : Grid} {picture ws heads tails roots ws' tails' roots' : List ℕ} {l : ℕ} where
   -- the flood moves up
   pub moves :
-      {r : ℕ} {side : Positions} → Visited w picture ws heads tails roots ws' tails' roots' l r side → (r ≡ l → ⊥)
-      → Stepped w picture heads tails ws' heads tails' roots' r
+      {r : ℕ} {side : Positions} → Visited grid picture ws heads tails roots ws' tails' roots' l r side → (r ≡ l → ⊥)
+      → Stepped grid picture heads tails ws' heads tails' roots' r
   moves U ne = record { outcome = inl (U .ready); more = omega (arith, U .raised ne) }
 
   module _ {r p : ℕ} (at-head : head-pixel (length picture) ws heads l ≡ p)
-      (began : Visited w picture ws heads tails roots ws' tails' roots' l r (around w p)) (stays : r ≡ l)
+      (began : Visited grid picture ws heads tails roots ws' tails' roots' l r (adjacent grid p)) (stays : r ≡ l)
     where
-      U : Visited w picture ws heads tails roots ws' tails' roots' l l (around w p)
+      U : Visited grid picture ws heads tails roots ws' tails' roots' l l (adjacent grid p)
       U = settle began stays
 
-      all-met : (q : ℕ) → q < length picture → edge-neighbours w p q ≡ true → getD ws' q 0 < length picture
-      all-met q hq a =
-          U .met refl q hq
-          (by-cases
-          (side-of w p q a)
-          (λ ahead.
-          by-cases
-          ahead
-          (λ e. or-left _ _ (or-right (next-in-column w q p || next-in-row w q p) _ e))
-          (λ e. or-right ((next-in-column w q p || next-in-row w q p) || next-in-row w p q) _ e))
-          (λ behind.
-          by-cases
-          behind
-          (λ e. or-left _ _ (or-left _ _ (or-right (next-in-column w q p) _ e)))
-          (λ e. or-left _ _ (or-left _ _ (or-left (next-in-column w q p) _ e)))))
+      all-met : (q : ℕ) → q < length picture → adjacent grid p q ≡ true → getD ws' q 0 < length picture
+      all-met q hq a = U .met refl q hq a
 
       here : head-pixel (length picture) ws' heads l ≡ p
       here = U .same-head ∙ at-head
@@ -111,15 +98,15 @@ module _ {w : ℕ} {picture ws heads tails roots ws' tails' roots' : List ℕ} {
       sound' :
           Sound
           (length picture)
-          (edge-neighbours w)
+          (adjacent grid)
           (grey picture)
           (state-of (length picture) ws' (advanced heads l) tails' roots')
-      sound' = finished-sound (U .ready .sound) bytes (edge-symmetric w) (U .ready .at) here all-met advance
+      sound' = finished-sound (U .ready .sound) bytes (adjacent-symmetric grid) (U .ready .at) here all-met advance
 
       -- the level has more pixels waiting
       pub goes-on :
           (getD (advanced heads l) l 0 ≡ getD tails' l 0 → ⊥)
-          → Stepped w picture heads tails ws' (advanced heads l) tails' roots' l
+          → Stepped grid picture heads tails ws' (advanced heads l) tails' roots' l
       goes-on ne =
           let R = U .ready in
           record {
@@ -127,15 +114,15 @@ module _ {w : ℕ} {picture ws heads tails roots ws' tails' roots' : List ℕ} {
                 inl
                 (record {
                   bytes = R .bytes;
-                  columns = R .columns;
                   whole = R .whole;
+                  wide = R .wide;
                   sized = R .sized;
                   wide-heads = length-set heads l _ ∙ R .wide-heads;
                   wide-tails = R .wide-tails;
                   wide-roots = R .wide-roots;
                   marks = R .marks;
                   sound = sound';
-                  at = finished-at (R .sound) bytes (edge-symmetric w) (R .at) here all-met advance ne;
+                  at = finished-at (R .sound) bytes (adjacent-symmetric grid) (R .at) here all-met advance ne;
                 });
             more = spent-more;
           }
@@ -156,12 +143,12 @@ module _ {w : ℕ} {picture ws heads tails roots ws' tails' roots' : List ℕ} {
       module _ (none-left : getD (advanced heads l) l 0 ≡ getD tails' l 0) where
         emptied : Empty (length picture) (state-of (length picture) ws' (advanced heads l) tails' roots') l
         emptied =
-            finished-empty (U .ready .sound) bytes (edge-symmetric w) (U .ready .at) here all-met advance none-left
+            finished-empty (U .ready .sound) bytes (adjacent-symmetric grid) (U .ready .at) here all-met advance none-left
 
         goes-below :
             {ws″ roots″ : List ℕ} {m : ℕ} → length ws″ ≡ length ws'
             → ClosedBelow (length picture) ws' roots' ws″ roots″ l m
-            → Ready w picture ws″ (advanced heads l) tails' roots″ m
+            → Ready grid picture ws″ (advanced heads l) tails' roots″ m
         goes-below {m = m} same-length B =
             let R = U .ready in
             let N = B .next-open in
@@ -174,8 +161,8 @@ module _ {w : ℕ} {picture ws heads tails roots ws' tails' roots' : List ℕ} {
             let step = B .step (advanced heads l) tails' in
             record {
               bytes = R .bytes;
-              columns = R .columns;
               whole = R .whole;
+              wide = R .wide;
               sized = record { words = same-length ∙ R .sized .words; small = R .sized .small };
               wide-heads = length-set heads l _ ∙ R .wide-heads;
               wide-tails = R .wide-tails;
@@ -185,20 +172,20 @@ module _ {w : ℕ} {picture ws heads tails roots ws' tails' roots' : List ℕ} {
               at = closed-at sound' bytes emptied (N .lower) open-m next step;
             }
 
-        ends-here : NoneOpen (length picture) roots' l → FloodedBy w picture ws'
+        ends-here : NoneOpen (length picture) roots' l → FloodedBy grid picture ws'
         ends-here none-open =
             ends
             sound'
             bytes
             emptied
             (λ k h. omega (arith, none-open k h))
-            (λ q a b. neighbour-before w (U .ready .columns) q a)
+            (λ q a b. adjacent-before grid (U .ready .wide) q a)
 
         pub empties :
             {ws″ roots″ : List ℕ} {m : ℕ} → length ws″ ≡ length ws'
             → ClosedBelow (length picture) ws' roots' ws″ roots″ l m
             ⊎ ((m ≡ 256) × NoneOpen (length picture) roots' l × (ws″ ≡ ws'))
-            → Stepped w picture heads tails ws″ (advanced heads l) tails' roots″ m
+            → Stepped grid picture heads tails ws″ (advanced heads l) tails' roots″ m
         empties same-length C =
             record {
               outcome = by-cases C (λ B. inl (goes-below same-length B)) (λ D. inr (D .0, rw (D .2) (ends-here (D .1))));
@@ -206,8 +193,8 @@ module _ {w : ℕ} {picture ws heads tails roots ws' tails' roots' : List ℕ} {
             }
 
 -- the heads and the tails stay within part 3, so there is an end to the steps
-module _ {w : ℕ} {picture ws heads tails roots : List ℕ} {l : ℕ} where
-  spent-le : Ready w picture ws heads tails roots l → spent heads tails ≤ 512 * length picture
+module _ {grid : Grid} {picture ws heads tails roots : List ℕ} {l : ℕ} where
+  spent-le : Ready grid picture ws heads tails roots l → spent heads tails ≤ 512 * length picture
   spent-le R =
       let n = length picture in
       let t : (k : ℕ) → k < 256 → getD tails k 0 ≤ length picture =
@@ -220,13 +207,13 @@ module _ {w : ℕ} {picture ws heads tails roots : List ℕ} {l : ℕ} where
       )
 
   pub spent-falls :
-      {ws' heads' tails' roots' : List ℕ} {r : ℕ} → Ready w picture ws heads tails roots l
-      → Stepped w picture heads tails ws' heads' tails' roots' r
+      {ws' heads' tails' roots' : List ℕ} {r : ℕ} → Ready grid picture ws heads tails roots l
+      → Stepped grid picture heads tails ws' heads' tails' roots' r
       → 512 * length picture + 1 - spent heads' tails' < 512 * length picture + 1 - spent heads tails
   spent-falls R T = omega (arith, spent-le R, T .more)
 
-  pub unfinished : Outcome w picture ws heads tails roots l → (l ≡ 256 → ⊥) → Ready w picture ws heads tails roots l
+  pub unfinished : Outcome grid picture ws heads tails roots l → (l ≡ 256 → ⊥) → Ready grid picture ws heads tails roots l
   unfinished O ne = by-cases O (λ R. R) (λ D. absurd (ne (D .0)))
 
-  pub ended : Outcome w picture ws heads tails roots l → l ≡ 256 → FloodedBy w picture ws
+  pub ended : Outcome grid picture ws heads tails roots l → l ≡ 256 → FloodedBy grid picture ws
   ended O e = by-cases O (λ R. absurd (omega (arith, R .at .level))) (λ D. D .1)

@@ -2,15 +2,17 @@
 use Prim.Native.Nat.{ℕ, suc, _≤_, _<_}
 use mathlib.Core.Bool.{true, _||_}
 use mathlib.Core.List.{List}
-use mathlib.Core.Logic.{_⊎_}
+use mathlib.Core.Logic.{_⊎_, inl, inr}
 use mathlib.Core.Path.{_≡_, refl, _∙_}
 use native.Mathlib.Omega.{arith}
 use lib.Dec.{eqb}
 use lib.ListN.{getD, length}
 use borrow.Author.Tests.{eqb-true}
 use Rattle.sets.specs.Sets.{Positions}
-use Rattle.sets.proofs.Tests.{or-cases}
-use Rattle.grid.specs.Neighbours.{edge-neighbours}
+use Rattle.sets.proofs.Tests.{or-cases, or-left, or-right}
+use Rattle.grid.specs.Neighbours.{next-in-row, next-in-column, edge-neighbours, adjacent}
+use Rattle.grid.specs.declared.Grid.{Grid}
+use Rattle.grid.proofs.Sides.{side-of}
 use Rattle.flood.specs.Flooding.{State, state-of}
 use Rattle.flood.specs.Levels.{grey, total}
 use Rattle.flood.specs.Calls.{Fitting, Placing, root-or, Ready, Standing, Visiting, Visited}
@@ -18,8 +20,36 @@ use Rattle.flood.proofs.Counts.{by-cases}
 use Rattle.flood.proofs.Meeting.{met-sound, met-at, met-ord, keep-met, now-met, tail-lt, reaches}
 use Rattle.flood.proofs.Tables.{total-raised}
 
+-- what shares an edge with p is a neighbour
+pub beside : (grid : Grid) (p q : ℕ) → edge-neighbours (grid .width) p q ≡ true → adjacent grid p q ≡ true
+unfolding adjacent
+beside grid p q e = e
+
+-- above p, left, right and below
+abbrev pub around : Grid → ℕ → Positions
+around grid p x =
+    ((next-in-column (grid .width) x p || next-in-row (grid .width) x p) || next-in-row (grid .width) p x)
+    || next-in-column (grid .width) p x
+
+-- and no other pixel is
+pub all-around : (grid : Grid) (p q : ℕ) → adjacent grid p q ≡ true → around grid p q ≡ true
+unfolding adjacent
+all-around grid p q e = sides (side-of w p q e)
+  where
+    w : ℕ
+    w = grid .width
+
+    sides :
+        ((next-in-row w p q ≡ true) ⊎ (next-in-column w p q ≡ true))
+        ⊎ ((next-in-row w q p ≡ true) ⊎ (next-in-column w q p ≡ true))
+        → around grid p q ≡ true
+    sides (inl (inl e)) = or-left _ _ (or-right (next-in-column w q p || next-in-row w q p) _ e)
+    sides (inl (inr e)) = or-right ((next-in-column w q p || next-in-row w q p) || next-in-row w p q) _ e
+    sides (inr (inl e)) = or-left _ _ (or-left _ _ (or-right (next-in-column w q p) _ e))
+    sides (inr (inr e)) = or-left _ _ (or-left _ _ (or-left (next-in-column w q p) _ e))
+
 -- the pixel where the flood stands, and the visits of its neighbours
-module _ {w : ℕ} {picture ws heads tails roots : List ℕ} {l p : ℕ} (S : Standing w picture ws heads tails roots l p) where
+module _ {grid : Grid} {picture ws heads tails roots : List ℕ} {l p : ℕ} (S : Standing grid picture ws heads tails roots l p) where
   pub standing-in : p < length picture
   standing-in =
       let R = S .ready in
@@ -29,15 +59,15 @@ module _ {w : ℕ} {picture ws heads tails roots : List ℕ} {l p : ℕ} (S : St
       at
       (R .sound .placed l _ (A .level) (R .sound .low l (A .level)) (A .busy l (A .level) (A .open-here)) .within)
 
-  pub visiting : (q : ℕ) → q < length picture → edge-neighbours w p q ≡ true → Visiting w picture ws heads tails roots l q
+  pub visiting : (q : ℕ) → q < length picture → adjacent grid p q ≡ true → Visiting grid picture ws heads tails roots l q
   visiting q h e = record { ready = S .ready; within = h; next = rw (S .here) e }
 
-module _ {w : ℕ} {picture ws heads tails roots : List ℕ} where
+module _ {grid : Grid} {picture ws heads tails roots : List ℕ} where
   -- nothing is stored
   pub stays :
-      {l : ℕ} {side : Positions} → Ready w picture ws heads tails roots l
+      {l : ℕ} {side : Positions} → Ready grid picture ws heads tails roots l
       → ((x : ℕ) → x < length picture → side x ≡ true → getD ws x 0 < length picture)
-      → Visited w picture ws heads tails roots ws tails roots l l side
+      → Visited grid picture ws heads tails roots ws tails roots l l side
   stays R met =
       record {
         ready = R;
@@ -51,9 +81,9 @@ module _ {w : ℕ} {picture ws heads tails roots : List ℕ} where
   -- another side within the first
   pub on-side :
       {ws' tails' roots' : List ℕ} {l r : ℕ} {side side' : Positions}
-      → Visited w picture ws heads tails roots ws' tails' roots' l r side
+      → Visited grid picture ws heads tails roots ws' tails' roots' l r side
       → ((x : ℕ) → x < length picture → side' x ≡ true → side x ≡ true)
-      → Visited w picture ws heads tails roots ws' tails' roots' l r side'
+      → Visited grid picture ws heads tails roots ws' tails' roots' l r side'
   on-side U sub =
       record {
         ready = U .ready;
@@ -67,8 +97,8 @@ module _ {w : ℕ} {picture ws heads tails roots : List ℕ} where
   -- the flood moves up
   pub leaves :
       {ws' tails' roots' : List ℕ} {l r : ℕ} {side side' : Positions}
-      → Visited w picture ws heads tails roots ws' tails' roots' l r side → (r ≡ l → ⊥)
-      → Visited w picture ws heads tails roots ws' tails' roots' l r side'
+      → Visited grid picture ws heads tails roots ws' tails' roots' l r side → (r ≡ l → ⊥)
+      → Visited grid picture ws heads tails roots ws' tails' roots' l r side'
   leaves U ne =
       record {
         ready = U .ready;
@@ -82,9 +112,9 @@ module _ {w : ℕ} {picture ws heads tails roots : List ℕ} where
   -- one visit after another, where the first stays at its level
   pub visits :
       {ws₁ tails₁ roots₁ ws₂ tails₂ roots₂ : List ℕ} {l r₁ r₂ : ℕ} {side₁ side₂ : Positions}
-      → Visited w picture ws heads tails roots ws₁ tails₁ roots₁ l r₁ side₁ → r₁ ≡ l
-      → Visited w picture ws₁ heads tails₁ roots₁ ws₂ tails₂ roots₂ l r₂ side₂
-      → Visited w picture ws heads tails roots ws₂ tails₂ roots₂ l r₂ (λ x. side₁ x || side₂ x)
+      → Visited grid picture ws heads tails roots ws₁ tails₁ roots₁ l r₁ side₁ → r₁ ≡ l
+      → Visited grid picture ws₁ heads tails₁ roots₁ ws₂ tails₂ roots₂ l r₂ side₂
+      → Visited grid picture ws heads tails roots ws₂ tails₂ roots₂ l r₂ (λ x. side₁ x || side₂ x)
   visits {side₁ = side₁} {side₂ = side₂} A e₁ B =
       record {
         ready = B .ready;
@@ -98,12 +128,12 @@ module _ {w : ℕ} {picture ws heads tails roots : List ℕ} where
 
   -- the level is the one that the visit began at
   pub settle :
-      {ws' tails' roots' : List ℕ} {l r : ℕ} {side : Positions} → Visited w picture ws heads tails roots ws' tails' roots' l r side
-      → r ≡ l → Visited w picture ws heads tails roots ws' tails' roots' l l side
+      {ws' tails' roots' : List ℕ} {l r : ℕ} {side : Positions} → Visited grid picture ws heads tails roots ws' tails' roots' l r side
+      → r ≡ l → Visited grid picture ws heads tails roots ws' tails' roots' l l side
   settle U e = rw e at U
 
-  module _ {l q : ℕ} (U : Visiting w picture ws heads tails roots l q) where
-    pub already : (getD ws q 0 ≡ length picture → ⊥) → Visited w picture ws heads tails roots ws tails roots l l (λ x. eqb x q)
+  module _ {l q : ℕ} (U : Visiting grid picture ws heads tails roots l q) where
+    pub already : (getD ws q 0 ≡ length picture → ⊥) → Visited grid picture ws heads tails roots ws tails roots l l (λ x. eqb x q)
     already ne =
         stays (U .ready)
         (λ x hx h.
@@ -130,7 +160,7 @@ module _ {w : ℕ} {picture ws heads tails roots : List ℕ} where
         {ws' tails' roots' : List ℕ} {r : ℕ} → getD ws q 0 ≡ length picture → length ws' ≡ length ws
         → Placing (length picture) q (grey picture q) ws tails roots ws' tails' roots'
         → ((l < grey picture q) × (r ≡ grey picture q)) ⊎ ((grey picture q ≤ l) × (r ≡ l))
-        → Visited w picture ws heads tails roots ws' tails' roots' l r (λ x. eqb x q)
+        → Visited grid picture ws heads tails roots ws' tails' roots' l r (λ x. eqb x q)
     queued {ws' = ws'} {tails' = tails'} {roots' = roots'} {r = r} new same-length P which =
         let n = length picture in
         let g : ℕ → ℕ = grey picture in
@@ -138,7 +168,7 @@ module _ {w : ℕ} {picture ws heads tails roots : List ℕ} where
         let s' : State = state-of n ws' heads tails' roots' in
         let R = U .ready in
         let A = R .at in
-        let adj = edge-neighbours w in
+        let adj = adjacent grid in
         let step = P .step heads in
         let root = root-or (getD roots (g q) 0) n q in
         let keep : (x : ℕ) → x < n → getD ws x 0 < n → getD ws' x 0 < n =
@@ -151,8 +181,8 @@ module _ {w : ℕ} {picture ws heads tails roots : List ℕ} where
           ready =
               record {
                 bytes = R .bytes;
-                columns = R .columns;
                 whole = R .whole;
+                wide = R .wide;
                 sized = record { words = same-length ∙ R .sized .words; small = R .sized .small };
                 wide-heads = R .wide-heads;
                 wide-tails = P .wide-tails;

@@ -1,13 +1,15 @@
 -- What the functions of the flood ask and leave, on the lists that they are lent.
-use Prim.Native.Nat.{ℕ, _+_, _*_, _%_, _≤_, _<_}
-use mathlib.Core.Bool.{true, cond, _||_}
+use Prim.Native.Nat.{ℕ, _+_, _*_, _≤_, _<_}
+use mathlib.Core.Bool.{true, cond}
 use mathlib.Core.List.{List}
 use mathlib.Core.Logic.{_⊎_}
 use mathlib.Core.Path.{_≡_}
 use lib.Dec.{eqb}
 use lib.ListN.{getD, length}
 use Rattle.sets.specs.Sets.{Positions}
-use Rattle.grid.specs.Neighbours.{next-in-row, next-in-column, edge-neighbours}
+use Rattle.grid.specs.Pixels.{pixels}
+use Rattle.grid.specs.Neighbours.{adjacent}
+use Rattle.grid.specs.declared.Grid.{Grid}
 use Rattle.flood.specs.Flooding.{parent-of, order-of, state-of, Pushed, Closed, Sound, At, Flooded}
 use Rattle.flood.specs.Levels.{grey, total}
 use Rattle.flood.specs.Marks.{Marked}
@@ -45,39 +47,35 @@ pub record Placing (n q l : ℕ) (ws tails roots ws' tails' roots' : List ℕ) :
 abbrev pub head-pixel : ℕ → List ℕ → List ℕ → ℕ → ℕ
 head-pixel n ws heads l = order-of n ws (getD heads l 0)
 
--- the flood of a picture of width w stands at level c
-pub record Ready (w : ℕ) (picture ws heads tails roots : List ℕ) (c : ℕ) : Type 0 where
+-- the flood of a picture stands at level c
+pub record Ready (grid : Grid) (picture ws heads tails roots : List ℕ) (c : ℕ) : Type 0 where
   pub bytes : (x : ℕ) → grey picture x < 256
-  pub columns : 0 < w
-  pub whole : length picture % w ≡ 0
+  pub whole : length picture ≡ pixels grid
+  pub wide : 0 < grid .width
   pub sized : Sized (length picture) ws
   pub wide-heads : length heads ≡ 256
   pub wide-tails : length tails ≡ 256
   pub wide-roots : length roots ≡ 260
   pub marks : Marked (length picture) roots
   pub sound :
-      Sound (length picture) (edge-neighbours w) (grey picture) (state-of (length picture) ws heads tails roots)
+      Sound (length picture) (adjacent grid) (grey picture) (state-of (length picture) ws heads tails roots)
   pub at : At (length picture) (state-of (length picture) ws heads tails roots) c
 
 -- p is the pixel at the head of level l, at which the flood stands
-pub record Standing (w : ℕ) (picture ws heads tails roots : List ℕ) (l p : ℕ) : Type 0 where
-  pub ready : Ready w picture ws heads tails roots l
+pub record Standing (grid : Grid) (picture ws heads tails roots : List ℕ) (l p : ℕ) : Type 0 where
+  pub ready : Ready grid picture ws heads tails roots l
   pub here : head-pixel (length picture) ws heads l ≡ p
 
 -- q is a neighbour of the pixel at the head of level l, at which the flood stands
-pub record Visiting (w : ℕ) (picture ws heads tails roots : List ℕ) (l q : ℕ) : Type 0 where
-  pub ready : Ready w picture ws heads tails roots l
+pub record Visiting (grid : Grid) (picture ws heads tails roots : List ℕ) (l q : ℕ) : Type 0 where
+  pub ready : Ready grid picture ws heads tails roots l
   pub within : q < length picture
-  pub next : edge-neighbours w (head-pixel (length picture) ws heads l) q ≡ true
-
--- above p, left, right and below
-abbrev pub around : ℕ → ℕ → Positions
-around w p x = ((next-in-column w x p || next-in-row w x p) || next-in-row w p x) || next-in-column w p x
+  pub next : adjacent grid (head-pixel (length picture) ws heads l) q ≡ true
 
 -- neighbours of the pixel at the head of level l were visited, and the flood stands at level r; where that is l, those on the side
 -- named are all met
-pub record Visited (w : ℕ) (picture ws heads tails roots ws' tails' roots' : List ℕ) (l r : ℕ) (side : Positions) : Type 0 where
-  pub ready : Ready w picture ws' heads tails' roots' r
+pub record Visited (grid : Grid) (picture ws heads tails roots ws' tails' roots' : List ℕ) (l r : ℕ) (side : Positions) : Type 0 where
+  pub ready : Ready grid picture ws' heads tails' roots' r
   pub same-head : head-pixel (length picture) ws' heads l ≡ head-pixel (length picture) ws heads l
   pub kept : (x : ℕ) → x < length picture → getD ws x 0 < length picture → getD ws' x 0 < length picture
   pub more : total 256 (λ (k : ℕ). getD tails k 0) ≤ total 256 (λ (k : ℕ). getD tails' k 0)
@@ -115,23 +113,22 @@ pub record ClosedBelow (n : ℕ) (ws roots ws' roots' : List ℕ) (l m : ℕ) : 
 abbrev pub spent : List ℕ → List ℕ → ℕ
 spent heads tails = total 256 (λ (k : ℕ). getD heads k 0) + total 256 (λ (k : ℕ). getD tails k 0)
 
--- the words of a workspace that the flood of a picture of width w leaves
-abbrev pub FloodedBy : ℕ → List ℕ → List ℕ → Type 0
-FloodedBy w picture ws =
-    Flooded (length picture) (edge-neighbours w) (grey picture) (parent-of ws)
+-- the words of a workspace that the flood of a picture leaves
+abbrev pub FloodedBy : Grid → List ℕ → List ℕ → Type 0
+FloodedBy grid picture ws = Flooded (length picture) (adjacent grid) (grey picture) (parent-of ws)
 
 -- the flood goes on at level r, or has ended, where r is 256
-abbrev pub Outcome : ℕ → List ℕ → List ℕ → List ℕ → List ℕ → List ℕ → ℕ → Type 0
-Outcome w picture ws heads tails roots r = Ready w picture ws heads tails roots r ⊎ ((r ≡ 256) × FloodedBy w picture ws)
+abbrev pub Outcome : Grid → List ℕ → List ℕ → List ℕ → List ℕ → List ℕ → ℕ → Type 0
+Outcome grid picture ws heads tails roots r = Ready grid picture ws heads tails roots r ⊎ ((r ≡ 256) × FloodedBy grid picture ws)
 
 -- a step of the flood
-pub record Stepped (w : ℕ) (picture heads tails ws' heads' tails' roots' : List ℕ) (r : ℕ) : Type 0 where
-  pub outcome : Outcome w picture ws' heads' tails' roots' r
+pub record Stepped (grid : Grid) (picture heads tails ws' heads' tails' roots' : List ℕ) (r : ℕ) : Type 0 where
+  pub outcome : Outcome grid picture ws' heads' tails' roots' r
   pub more : spent heads tails < spent heads' tails'
 
--- a picture of whole rows of width w, with a pixel at least, and a workspace for it
-pub record Floodable (w : ℕ) (picture ws : List ℕ) : Type 0 where
+-- a picture of the grid's pixels, with a pixel at least, and a workspace for it
+pub record Floodable (grid : Grid) (picture ws : List ℕ) : Type 0 where
   pub sized : Sized (length picture) ws
-  pub some : 0 < length picture
-  pub columns : 0 < w
-  pub whole : length picture % w ≡ 0
+  pub whole : length picture ≡ pixels grid
+  pub wide : 0 < grid .width
+  pub high : 0 < grid .height

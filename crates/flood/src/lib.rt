@@ -6,12 +6,13 @@ mod queues;
 pub use levels::fill;
 pub use levels::run_starts;
 ghost use Rattle.flood.specs.Calls.{Floodable, FloodedBy};
+use grid::Grid;
 
-// Floods a picture of whole rows: on return each parent word is the root of the pixel's node, or of its parent's for a root, and the
+// Floods a picture: on return each parent word is the root of the pixel's node, or of its parent's for a root, and the
 // links to the parents join the same pixels at every level as the picture's edges.
-pub fn flood(picture: &[u8], width: usize, ws: &mut [u32])
-    requires { ⌜ Floodable width (now picture) (now ws) ⌝ }
-    ensures { λ _. ⌜ FloodedBy width (now (picture .entry)) (now (ws .exit)) ⌝ }
+pub fn flood(picture: &[u8], grid: Grid, ws: &mut [u32])
+    requires { ⌜ Floodable grid (now picture) (now ws) ⌝ }
+    ensures { λ _. ⌜ FloodedBy grid (now (picture .entry)) (now (ws .exit)) ⌝ }
 {
     let n = picture.len();
     let counts = levels::count_levels(picture);
@@ -26,13 +27,5 @@ pub fn flood(picture: &[u8], width: usize, ws: &mut [u32])
     levels::fill(&mut ws[0..n], n as u32);
     let first = picture[0] as usize;
     queues::push(n, 0, first, ws, &mut tails, &mut roots);
-    queues::run(
-        picture,
-        width,
-        first,
-        ws,
-        &mut heads,
-        &mut tails,
-        &mut roots,
-    );
+    queues::run(picture, grid, first, ws, &mut heads, &mut tails, &mut roots);
 }

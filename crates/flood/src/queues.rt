@@ -5,9 +5,10 @@ ghost use Prim.Native.Nat.{ℕ, _%_, _<_};
 ghost use mathlib.Core.Logic.{_⊎_};
 ghost use lib.Dec.{eqb};
 ghost use lib.ListN.{length};
-ghost use Rattle.grid.specs.Neighbours.{next-in-row, next-in-column};
+ghost use Rattle.grid.specs.Neighbours.{next-in-row, next-in-column, adjacent};
 ghost use Rattle.flood.specs.Marks.{Marked, Highest};
-ghost use Rattle.flood.specs.Calls.{root-or, Fitting, Placing, Standing, Visiting, Visited, NoneOpen, NextOpen, Closable, ClosedBelow, head-pixel, around, Ready, Stepped, FloodedBy};
+ghost use Rattle.flood.specs.Calls.{root-or, Fitting, Placing, Standing, Visiting, Visited, NoneOpen, NextOpen, Closable, ClosedBelow, head-pixel, Ready, Stepped, FloodedBy};
+use grid::Grid;
 
 fn root_or(root: usize, n: usize, q: usize) -> usize
     ensures { λ r. ⌜ r ≡ root-or root n q ⌝ }
@@ -43,7 +44,7 @@ pub fn push(
 // the level at which the flood goes on, the brighter of the two.
 fn visit(
     picture: &[u8],
-    width: usize,
+    grid: Grid,
     q: usize,
     level: usize,
     ws: &mut [u32],
@@ -51,8 +52,8 @@ fn visit(
     tails: &mut [usize; 256],
     roots: &mut [usize; 260],
 ) -> usize
-    requires { ⌜ Visiting width (now picture) (now ws) (now heads) (now tails) (now roots) level q ⌝ }
-    ensures { λ r. ⌜ Visited width (now (picture .entry)) (now (ws .entry)) (now (heads .entry)) (now (tails .entry)) (now (roots .entry)) (now (ws .exit)) (now (tails .exit)) (now (roots .exit)) level r (λ (x : ℕ). eqb x q) ⌝ }
+    requires { ⌜ Visiting grid (now picture) (now ws) (now heads) (now tails) (now roots) level q ⌝ }
+    ensures { λ r. ⌜ Visited grid (now (picture .entry)) (now (ws .entry)) (now (heads .entry)) (now (tails .entry)) (now (roots .entry)) (now (ws .exit)) (now (tails .exit)) (now (roots .exit)) level r (λ (x : ℕ). eqb x q) ⌝ }
 {
     let n = picture.len();
     if ws[q] as usize != n {
@@ -69,7 +70,7 @@ fn visit(
 // The neighbour above p, the pixel at the head of the current level.
 fn visit_up(
     picture: &[u8],
-    width: usize,
+    grid: Grid,
     p: usize,
     level: usize,
     ws: &mut [u32],
@@ -77,19 +78,20 @@ fn visit_up(
     tails: &mut [usize; 256],
     roots: &mut [usize; 260],
 ) -> usize
-    requires { ⌜ Standing width (now picture) (now ws) (now heads) (now tails) (now roots) level p ⌝ }
-    ensures { λ r. ⌜ Visited width (now (picture .entry)) (now (ws .entry)) (now (heads .entry)) (now (tails .entry)) (now (roots .entry)) (now (ws .exit)) (now (tails .exit)) (now (roots .exit)) level r (λ (x : ℕ). next-in-column width x p) ⌝ }
+    requires { ⌜ Standing grid (now picture) (now ws) (now heads) (now tails) (now roots) level p ⌝ }
+    ensures { λ r. ⌜ Visited grid (now (picture .entry)) (now (ws .entry)) (now (heads .entry)) (now (tails .entry)) (now (roots .entry)) (now (ws .exit)) (now (tails .exit)) (now (roots .exit)) level r (λ (x : ℕ). next-in-column (grid .width) x p) ⌝ }
 {
+    let width = grid.width as usize;
     if p < width {
         return level;
     }
-    visit(picture, width, p - width, level, ws, heads, tails, roots)
+    visit(picture, grid, p - width, level, ws, heads, tails, roots)
 }
 
 // The neighbour below p.
 fn visit_down(
     picture: &[u8],
-    width: usize,
+    grid: Grid,
     p: usize,
     level: usize,
     ws: &mut [u32],
@@ -97,19 +99,20 @@ fn visit_down(
     tails: &mut [usize; 256],
     roots: &mut [usize; 260],
 ) -> usize
-    requires { ⌜ Standing width (now picture) (now ws) (now heads) (now tails) (now roots) level p ⌝ }
-    ensures { λ r. ⌜ Visited width (now (picture .entry)) (now (ws .entry)) (now (heads .entry)) (now (tails .entry)) (now (roots .entry)) (now (ws .exit)) (now (tails .exit)) (now (roots .exit)) level r (λ (x : ℕ). next-in-column width p x) ⌝ }
+    requires { ⌜ Standing grid (now picture) (now ws) (now heads) (now tails) (now roots) level p ⌝ }
+    ensures { λ r. ⌜ Visited grid (now (picture .entry)) (now (ws .entry)) (now (heads .entry)) (now (tails .entry)) (now (roots .entry)) (now (ws .exit)) (now (tails .exit)) (now (roots .exit)) level r (λ (x : ℕ). next-in-column (grid .width) p x) ⌝ }
 {
+    let width = grid.width as usize;
     if picture.len() - p <= width {
         return level;
     }
-    visit(picture, width, p + width, level, ws, heads, tails, roots)
+    visit(picture, grid, p + width, level, ws, heads, tails, roots)
 }
 
 // The neighbour left of p, which stands in the column named.
 fn visit_left(
     picture: &[u8],
-    width: usize,
+    grid: Grid,
     column: usize,
     p: usize,
     level: usize,
@@ -118,20 +121,20 @@ fn visit_left(
     tails: &mut [usize; 256],
     roots: &mut [usize; 260],
 ) -> usize
-    requires { ⌜ Standing width (now picture) (now ws) (now heads) (now tails) (now roots) level p ⌝ }
-    requires { ⌜ column ≡ p % width ⌝ }
-    ensures { λ r. ⌜ Visited width (now (picture .entry)) (now (ws .entry)) (now (heads .entry)) (now (tails .entry)) (now (roots .entry)) (now (ws .exit)) (now (tails .exit)) (now (roots .exit)) level r (λ (x : ℕ). next-in-row width x p) ⌝ }
+    requires { ⌜ Standing grid (now picture) (now ws) (now heads) (now tails) (now roots) level p ⌝ }
+    requires { ⌜ column ≡ p % grid .width ⌝ }
+    ensures { λ r. ⌜ Visited grid (now (picture .entry)) (now (ws .entry)) (now (heads .entry)) (now (tails .entry)) (now (roots .entry)) (now (ws .exit)) (now (tails .exit)) (now (roots .exit)) level r (λ (x : ℕ). next-in-row (grid .width) x p) ⌝ }
 {
     if column == 0 {
         return level;
     }
-    visit(picture, width, p - 1, level, ws, heads, tails, roots)
+    visit(picture, grid, p - 1, level, ws, heads, tails, roots)
 }
 
 // The neighbour right of p.
 fn visit_right(
     picture: &[u8],
-    width: usize,
+    grid: Grid,
     column: usize,
     p: usize,
     level: usize,
@@ -140,14 +143,15 @@ fn visit_right(
     tails: &mut [usize; 256],
     roots: &mut [usize; 260],
 ) -> usize
-    requires { ⌜ Standing width (now picture) (now ws) (now heads) (now tails) (now roots) level p ⌝ }
-    requires { ⌜ column ≡ p % width ⌝ }
-    ensures { λ r. ⌜ Visited width (now (picture .entry)) (now (ws .entry)) (now (heads .entry)) (now (tails .entry)) (now (roots .entry)) (now (ws .exit)) (now (tails .exit)) (now (roots .exit)) level r (λ (x : ℕ). next-in-row width p x) ⌝ }
+    requires { ⌜ Standing grid (now picture) (now ws) (now heads) (now tails) (now roots) level p ⌝ }
+    requires { ⌜ column ≡ p % grid .width ⌝ }
+    ensures { λ r. ⌜ Visited grid (now (picture .entry)) (now (ws .entry)) (now (heads .entry)) (now (tails .entry)) (now (roots .entry)) (now (ws .exit)) (now (tails .exit)) (now (roots .exit)) level r (λ (x : ℕ). next-in-row (grid .width) p x) ⌝ }
 {
+    let width = grid.width as usize;
     if column + 1 == width {
         return level;
     }
-    visit(picture, width, p + 1, level, ws, heads, tails, roots)
+    visit(picture, grid, p + 1, level, ws, heads, tails, roots)
 }
 
 // The place of the highest set bit of a word.
@@ -199,49 +203,50 @@ fn close(n: usize, level: usize, ws: &mut [u32], roots: &mut [usize; 260]) -> us
 // The neighbours of the pixel at the head of the current level, until one is brighter and was not met: the flood moves up to it at once.
 fn visit_around(
     picture: &[u8],
-    width: usize,
+    grid: Grid,
     level: usize,
     ws: &mut [u32],
     heads: &[usize; 256],
     tails: &mut [usize; 256],
     roots: &mut [usize; 260],
 ) -> usize
-    requires { ⌜ Ready width (now picture) (now ws) (now heads) (now tails) (now roots) level ⌝ }
-    ensures { λ r. ⌜ Visited width (now (picture .entry)) (now (ws .entry)) (now (heads .entry)) (now (tails .entry)) (now (roots .entry)) (now (ws .exit)) (now (tails .exit)) (now (roots .exit)) level r (λ (x : ℕ). around width (head-pixel (length (now (picture .entry))) (now (ws .entry)) (now (heads .entry)) level) x) ⌝ }
+    requires { ⌜ Ready grid (now picture) (now ws) (now heads) (now tails) (now roots) level ⌝ }
+    ensures { λ r. ⌜ Visited grid (now (picture .entry)) (now (ws .entry)) (now (heads .entry)) (now (tails .entry)) (now (roots .entry)) (now (ws .exit)) (now (tails .exit)) (now (roots .exit)) level r (λ (x : ℕ). adjacent grid (head-pixel (length (now (picture .entry))) (now (ws .entry)) (now (heads .entry)) level) x) ⌝ }
 {
     let n = picture.len();
     let p = ws[2 * n + heads[level]] as usize;
+    let width = grid.width as usize;
     let column = p % width;
-    let up = visit_up(picture, width, p, level, ws, heads, tails, roots);
+    let up = visit_up(picture, grid, p, level, ws, heads, tails, roots);
     if up != level {
         return up;
     }
-    let left = visit_left(picture, width, column, p, level, ws, heads, tails, roots);
+    let left = visit_left(picture, grid, column, p, level, ws, heads, tails, roots);
     if left != level {
         return left;
     }
-    let right = visit_right(picture, width, column, p, level, ws, heads, tails, roots);
+    let right = visit_right(picture, grid, column, p, level, ws, heads, tails, roots);
     if right != level {
         return right;
     }
-    visit_down(picture, width, p, level, ws, heads, tails, roots)
+    visit_down(picture, grid, p, level, ws, heads, tails, roots)
 }
 
 // One step of the flood at the level named: the neighbours of the pixel at its head are visited. Where none moves the flood up the head
 // moves on, and a level with nothing left is closed. The answer is the level of the next step, 256 at the end.
 fn step(
     picture: &[u8],
-    width: usize,
+    grid: Grid,
     level: usize,
     ws: &mut [u32],
     heads: &mut [usize; 256],
     tails: &mut [usize; 256],
     roots: &mut [usize; 260],
 ) -> usize
-    requires { ⌜ Ready width (now picture) (now ws) (now heads) (now tails) (now roots) level ⌝ }
-    ensures { λ r. ⌜ Stepped width (now (picture .entry)) (now (heads .entry)) (now (tails .entry)) (now (ws .exit)) (now (heads .exit)) (now (tails .exit)) (now (roots .exit)) r ⌝ }
+    requires { ⌜ Ready grid (now picture) (now ws) (now heads) (now tails) (now roots) level ⌝ }
+    ensures { λ r. ⌜ Stepped grid (now (picture .entry)) (now (heads .entry)) (now (tails .entry)) (now (ws .exit)) (now (heads .exit)) (now (tails .exit)) (now (roots .exit)) r ⌝ }
 {
-    let r = visit_around(picture, width, level, ws, heads, tails, roots);
+    let r = visit_around(picture, grid, level, ws, heads, tails, roots);
     if r != level {
         return r;
     }
@@ -255,18 +260,18 @@ fn step(
 // The flood from the level named to its end.
 pub fn run(
     picture: &[u8],
-    width: usize,
+    grid: Grid,
     first: usize,
     ws: &mut [u32],
     heads: &mut [usize; 256],
     tails: &mut [usize; 256],
     roots: &mut [usize; 260],
 )
-    requires { ⌜ Ready width (now picture) (now ws) (now heads) (now tails) (now roots) first ⌝ }
-    ensures { λ _. ⌜ FloodedBy width (now (picture .entry)) (now (ws .exit)) ⌝ }
+    requires { ⌜ Ready grid (now picture) (now ws) (now heads) (now tails) (now roots) first ⌝ }
+    ensures { λ _. ⌜ FloodedBy grid (now (picture .entry)) (now (ws .exit)) ⌝ }
 {
     let mut level = first;
     while level != 256 {
-        level = step(picture, width, level, ws, heads, tails, roots);
+        level = step(picture, grid, level, ws, heads, tails, roots);
     }
 }

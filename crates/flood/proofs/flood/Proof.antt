@@ -2,7 +2,7 @@
 -- flood ready to run.
 use native.Mathlib.Omega.{arith}
 use borrow.Author.Needs.{needs}
-use Rattle.flood.proofs.Starts.{counts-fit, filled-sized, filled-unmet, first-fits, first-ready}
+use Rattle.flood.proofs.Starts.{some-pixel, counts-fit, filled-sized, filled-unmet, first-fits, first-ready}
 use Rattle.flood.proofs.flood.Statement.{statement}
 use Rattle.flood.proofs.flood.Tie as tie
 
@@ -40,7 +40,7 @@ fill-requires : tie.Need-fill-requires
 fill-requires c κs = search needs
 
 shared-slice-read-first : tie.Need-shared-slice-read-first
-shared-slice-read-first c = search needs
+shared-slice-read-first c = some-pixel (c .before .before .before .before .before .before .before .before .before .pre)
 
 cast-first : tie.Need-cast-first
 cast-first c = omega (arith, c .shared-slice-known2 .given 0)

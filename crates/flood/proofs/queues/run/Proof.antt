@@ -10,11 +10,11 @@ use Rattle.flood.proofs.queues.run.Statement.{statement}
 use Rattle.flood.proofs.queues.run.Tie as tie
 
 abbrev Inv-loop : tie.InvT-loop
-Inv-loop picture width first ws₀ heads₀ tails₀ roots₀ level₀ ws heads tails roots level =
-    (length ws ≡ length ws₀) × Outcome width picture ws heads tails roots level
+Inv-loop picture grid first ws₀ heads₀ tails₀ roots₀ level₀ ws heads tails roots level =
+    (length ws ≡ length ws₀) × Outcome grid picture ws heads tails roots level
 
 abbrev μ-loop : tie.MeasureT-loop
-μ-loop picture width first ws₀ heads₀ tails₀ roots₀ level₀ ws heads tails roots level =
+μ-loop picture grid first ws₀ heads₀ tails₀ roots₀ level₀ ws heads tails roots level =
     512 * length picture + 1 - spent heads tails
 
 loop-holds : tie.Need-loop-holds Inv-loop μ-loop

@@ -1,11 +1,12 @@
 -- `visit_around` meets its contract. Each visit that stays at the level leaves the same pixel at its head for the next.
 use Prim.Native.Nat.{_+_, _*_}
-use mathlib.Core.Path.{refl}
+use mathlib.Core.Path.{refl, _∙_}
 use native.Mathlib.Omega.{arith}
 use lib.ListN.{getD, length}
 use borrow.Author.Needs.{needs}
+use Rattle.flood.specs.Flooding.{order-of}
 use Rattle.flood.proofs.Steps.{head-in, start-standing, still}
-use Rattle.flood.proofs.Visits.{leaves, visits}
+use Rattle.flood.proofs.Visits.{all-around, leaves, on-side, visits}
 use Rattle.flood.proofs.queues.visit_around.Statement.{statement}
 use Rattle.flood.proofs.queues.visit_around.Tie as tie
 
@@ -32,6 +33,9 @@ cast-p c =
     let at = c .before .before .before .before .args in
     omega (arith, c .slice-known2 .given (2 * length (at .picture .now) + getD (at .heads .now) (at .level) 0))
 
+cast-width : tie.Need-cast-width
+cast-width c = search needs
+
 rem-column : tie.Need-rem-column
 rem-column c = search needs
 
@@ -49,7 +53,7 @@ returns c =
 visit-left-requires : tie.Need-visit-left-requires
 visit-left-requires c κs =
     let up = c .before .before .before .before .before .before in
-    ((still (up .visit-up .ensures) (c .before .before .before .if1 .left) (start-standing (up .before .before .before .before .before .before .before .before .pre))), refl)
+    ((still (up .visit-up .ensures) (c .before .before .before .if1 .left) (start-standing (up .before .before .before .before .before .before .before .before .before .pre))), refl)
 
 same-length-2 : tie.Need-same-length-2
 same-length-2 c = search needs
@@ -64,7 +68,7 @@ visit-right-requires : tie.Need-visit-right-requires
 visit-right-requires c κs =
     let left = c .before .before .before .before .before .before in
     let up = left .before .before .before .before .before .before .before in
-    ((still (left .visit-left .ensures) (c .before .before .before .if2 .left) (still (up .visit-up .ensures) (left .before .before .before .before .if1 .left) (start-standing (up .before .before .before .before .before .before .before .before .pre)))), refl)
+    ((still (left .visit-left .ensures) (c .before .before .before .if2 .left) (still (up .visit-up .ensures) (left .before .before .before .before .if1 .left) (start-standing (up .before .before .before .before .before .before .before .before .before .pre)))), refl)
 
 same-length-3 : tie.Need-same-length-3
 same-length-3 c = search needs
@@ -81,10 +85,18 @@ visit-down-requires c κs =
     let right = c .before .before .before .before .before .before in
     let left = right .before .before .before .before .before .before .before in
     let up = left .before .before .before .before .before .before .before in
-    still (right .visit-right .ensures) (c .before .before .before .if3 .left) (still (left .visit-left .ensures) (right .before .before .before .before .if2 .left) (still (up .visit-up .ensures) (left .before .before .before .before .if1 .left) (start-standing (up .before .before .before .before .before .before .before .before .pre))))
+    still (right .visit-right .ensures) (c .before .before .before .if3 .left) (still (left .visit-left .ensures) (right .before .before .before .before .if2 .left) (still (up .visit-up .ensures) (left .before .before .before .before .if1 .left) (start-standing (up .before .before .before .before .before .before .before .before .before .pre))))
 
 same-length-4 : tie.Need-same-length-4
-same-length-4 c = search needs
+same-length-4 c =
+    let down = c .before .before in
+    let right = down .before .before .before .before .before .before .before in
+    let left = right .before .before .before .before .before .before .before in
+    let up = left .before .before .before .before .before .before .before in
+    down .visit-down .kept .1 .1 .1 .1 .0
+    ∙ right .visit-right .kept .1 .1 .1 .1 .1 .0
+    ∙ left .visit-left .kept .1 .1 .1 .1 .1 .0
+    ∙ up .visit-up .kept .1 .1 .1 .1 .0
 
 returns-4 : tie.Need-returns-4
 returns-4 c =
@@ -92,7 +104,11 @@ returns-4 c =
     let right = down .before .before .before .before .before .before .before in
     let left = right .before .before .before .before .before .before .before in
     let up = left .before .before .before .before .before .before .before in
-    visits (visits (visits (up .visit-up .ensures) (left .before .before .before .before .if1 .left) (left .visit-left .ensures)) (right .before .before .before .before .if2 .left) (right .visit-right .ensures)) (down .before .before .before .before .if3 .left) (down .visit-down .ensures)
+    let start = up .before .before .before .before .before .before .before .before .before in
+    let p = order-of (length (start .args .picture .now)) (start .args .ws .now) (getD (start .args .heads .now) (start .args .level) 0) in
+    on-side
+    (visits (visits (visits (up .visit-up .ensures) (left .before .before .before .before .if1 .left) (left .visit-left .ensures)) (right .before .before .before .before .if2 .left) (right .visit-right .ensures)) (down .before .before .before .before .if3 .left) (down .visit-down .ensures))
+    (λ x hx h. all-around (start .args .grid) p x h)
 
 pub visit-around-spec : {M : Type 1} → statement M
 visit-around-spec =
@@ -105,6 +121,7 @@ visit-around-spec =
     mul-p-3
     slice-read-p
     cast-p
+    cast-width
     rem-column
     visit-up-requires
     same-length
