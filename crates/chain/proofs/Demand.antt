@@ -15,7 +15,7 @@ use Rattle.grid.proofs.Attributes.{adjacent-symmetric, attribute-increasing}
 use Rattle.grid.proofs.Whole.{grid-whole}
 use Rattle.opening.specs.Opening.{at-least, component-at, least-grey}
 use Rattle.opening.specs.Leveling.{Leveling}
-use Rattle.opening.specs.Residue.{falls-from, largest, largest-place, openings-at, residue-at, index-at}
+use Rattle.opening.specs.Residue.{falls-from, largest, largest-place, thresholds, openings-by, residue-by, index-by}
 use Rattle.opening.proofs.Levels.{least-grey-le, least-grey-attained}
 use Rattle.opening.proofs.Components.{component-grey}
 use Rattle.opening.proofs.Leveling.{opened-leveling, leveling-ext}
@@ -133,15 +133,15 @@ module _ (grid : Grid) (a : ℕ) (original : List ℕ) where
         )
 
     -- where the thresholds are a step list, the falls of the chain are the residues of the original
-    module _ (steps : List ℕ) (thresholds : accepted-thresholds original calls ≡ steps) (good : steps-good steps ≡ true) where
+    module _ (steps : List ℕ) (same-steps : accepted-thresholds original calls ≡ steps) (good : steps-good steps ≡ true) where
       falls-residues : (p : ℕ) → p < pixels grid
           → chain-falls original calls p
           ≡ falls-from
           (grey original p)
-          (openings-at (pixels grid) (adjacent grid) (attribute grid a) steps (grey original) p)
+          (openings-by (pixels grid) (adjacent grid) (thresholds (attribute grid a) steps) (grey original) p)
       falls-residues p below =
           rw
-          (← thresholds, original-opened p below)
+          (← same-steps, original-opened p below)
           (chain-falls-openings
           grid
           a
@@ -151,13 +151,13 @@ module _ (grid : Grid) (a : ℕ) (original : List ℕ) where
           calls
           named
           original-opened
-          (rw thresholds (step-list steps good .rises))
+          (rw same-steps (step-list steps good .rises))
           p
           below)
 
       chain-maps : (chain-residues (pixels grid) original calls ≡ residue-map grid a steps original)
           × (chain-indices (pixels grid) original calls ≡ index-map grid a steps original)
-      unfolding chain-residues chain-indices residue-map index-map residue-at index-at
+      unfolding chain-residues chain-indices residue-map index-map residue-by index-by
       chain-maps = (
         table-ext (pixels grid) _ _ (λ p below. ap largest (falls-residues p below)),
         table-ext (pixels grid) _ _ (λ p below. ap largest-place (falls-residues p below)),

@@ -1,4 +1,5 @@
 pub mod Outlasted
+pub mod Places
 pub mod Largest
 pub mod Raised
 pub mod Nodes

@@ -1,28 +1,28 @@
--- Along one list of steps: the residues of a pixel whose node falls are those of its parent, raised at the step of the fall.
+-- Along one list of tests: the residues of a pixel whose node falls are those of its parent, raised at the step of the fall.
 use Prim.Native.Nat.{ℕ, zero, suc, _+_, _-_, _≤_, _<_}
 use mathlib.Core.Bool.{true, false}
 use mathlib.Core.List.{List, [], _∷_, map}
 use mathlib.Core.Logic.{⊎-elim}
 use mathlib.Core.Path.{_≡_, refl, ap, ap₂}
 use native.Mathlib.Omega.{arith}
-use lib.Dec.{ltb}
 use lib.ListN.{length, getD, set}
-use borrow.Author.Tests.{ltb-true, ltb-false}
-use Rattle.sets.proofs.Tests.{and-left, and-right, decided}
-use Rattle.opening.specs.Residue.{falls-from, rising}
+use Rattle.sets.specs.Sets.{Positions}
+use Rattle.sets.proofs.Tests.{clash, decided, is-false}
+use Rattle.opening.specs.Opening.{Keeps, Upward}
+use Rattle.opening.specs.Residue.{falls-from, Narrowing}
 use Rattle.opening.proofs.Residue.{Falling}
 use Rattle.falls.specs.Falls.{outlasted}
 
--- as long as a pixel keeps its grey its residues are 0
-pub falls-kept : (x : ℕ → ℕ) (u : ℕ) (steps : List ℕ) (k : ℕ) → ((i : ℕ) → i < k → x (getD steps i 0) ≡ u) → (i : ℕ) → i < k
-    → getD (falls-from u (map x steps)) i 0 ≡ 0
+-- as long as a pixel keeps its grey its residues are 0; d stands for what is beyond the last test
+pub falls-kept : (x : Keeps → ℕ) (u : ℕ) (tests : List Keeps) (d : Keeps) (k : ℕ) → ((i : ℕ) → i < k → x (getD tests i d) ≡ u)
+    → (i : ℕ) → i < k → getD (falls-from u (map x tests)) i 0 ≡ 0
 unfolding falls-from
-falls-kept x u [] k kept i b = refl
-falls-kept x u (t ∷ rest) k kept zero b = omega (arith, kept 0 b)
-falls-kept x u (t ∷ rest) k kept (suc i) b =
+falls-kept x u [] d k kept i b = refl
+falls-kept x u (keeps ∷ rest) d k kept zero b = omega (arith, kept 0 b)
+falls-kept x u (keeps ∷ rest) d k kept (suc i) b =
     rw
     (kept 0 (omega arith))
-    (falls-kept x u rest (k - 1) (λ j l. kept (suc j) (omega arith)) i (omega arith))
+    (falls-kept x u rest d (k - 1) (λ j l. kept (suc j) (omega arith)) i (omega arith))
 
 pub falls-le : (u : ℕ) (l : List ℕ) → Falling u l → (i : ℕ) → getD (falls-from u l) i 0 ≤ u
 unfolding falls-from
@@ -30,35 +30,31 @@ falls-le u [] f i = omega arith
 falls-le u (next ∷ rest) f zero = omega arith
 falls-le u (next ∷ rest) f (suc i) = omega (arith, f .0, falls-le next rest (f .1) i)
 
-pub length-falls : (x : ℕ → ℕ) (u : ℕ) (steps : List ℕ) → length (falls-from u (map x steps)) ≡ length steps
+pub length-falls : (x : Keeps → ℕ) (u : ℕ) (tests : List Keeps) → length (falls-from u (map x tests)) ≡ length tests
 unfolding falls-from
 length-falls x u [] = refl
-length-falls x u (t ∷ rest) = ap suc (length-falls x (x t) rest)
+length-falls x u (keeps ∷ rest) = ap suc (length-falls x (x keeps) rest)
 
-module _ (x y : ℕ → ℕ) (u v a : ℕ) (kept :
-    (t : ℕ) → t ≤ a → (x t ≡ u) × (y t ≡ v)) (gone : (t : ℕ) → a < t → x t ≡ y t) (higher : v ≤ u) where
-  -- above a the two have the same greys
-  map-gone : (low : ℕ) (steps : List ℕ) → a ≤ low → rising low steps ≡ true → map x steps ≡ map y steps
-  unfolding rising
-  map-gone low [] l up = refl
-  map-gone low (t ∷ rest) l up =
-      let above : low < t = ltb-true low t (and-left (ltb low t) (rising t rest) up) in
-      let later : map x rest ≡ map y rest = map-gone t rest (omega arith) (and-right (ltb low t) (rising t rest) up) in
-      rw (gone t (omega arith), later)
+-- x and y are the greys of a pixel and of its parent under an opening, u and v their own, s the node of the pixel
+module _ (n : ℕ) (x y : Keeps → ℕ) (u v : ℕ) (s : Positions)
+    (kept : (keeps : Keeps) → Upward n keeps → keeps s ≡ true → (x keeps ≡ u) × (y keeps ≡ v))
+    (gone : (keeps : Keeps) → Upward n keeps → keeps s ≡ false → x keeps ≡ y keeps) (higher : v ≤ u) where
+  -- behind a test that s fails the two have the same greys
+  map-gone : (wide : Keeps) (tests : List Keeps) → wide s ≡ false → Narrowing n wide tests → map x tests ≡ map y tests
+  map-gone wide [] fails narrow = refl
+  map-gone wide (keeps ∷ rest) fails (up, inside, narrow) =
+      let fails-on : keeps s ≡ false = is-false (keeps s) (λ e. clash (wide s) (inside s e) fails) in
+      rw (gone keeps up fails-on, map-gone keeps rest fails-on narrow)
 
-  pub falls-raised : (low : ℕ) (steps : List ℕ) → rising low steps ≡ true → Falling v (map y steps)
-      → falls-from u (map x steps) ≡ set (falls-from v (map y steps)) (outlasted a steps) (u - v + getD (falls-from v (map y steps)) (outlasted a steps) 0)
-  unfolding rising outlasted falls-from
-  falls-raised low [] up fall = refl
-  falls-raised low (t ∷ rest) up fall =
-      let above : low < t = ltb-true low t (and-left (ltb low t) (rising t rest) up) in
-      let more : rising t rest ≡ true = and-right (ltb low t) (rising t rest) up in
+  pub falls-raised : (wide : Keeps) (tests : List Keeps) → Narrowing n wide tests → Falling v (map y tests)
+      → falls-from u (map x tests) ≡ set (falls-from v (map y tests)) (outlasted s tests) (u - v + getD (falls-from v (map y tests)) (outlasted s tests) 0)
+  unfolding outlasted falls-from
+  falls-raised wide [] narrow fall = refl
+  falls-raised wide (keeps ∷ rest) (up, inside, narrow) fall =
       ⊎-elim
-      (λ (e : ltb a t ≡ true).
-      let l : a < t = ltb-true a t e in
-      rw (e, gone t l, map-gone t rest (omega arith) more) (ap (λ (r : ℕ). r ∷ falls-from (y t) (map y rest)) (omega (arith, fall .0))))
-      (λ (e : ltb a t ≡ false).
-      let l : t ≤ a = ltb-false a t e in
-      let later : Falling v (map y rest) = rw (kept t l .1) at (fall .1) in
-      rw (e, kept t l .0, kept t l .1) (ap₂ (λ (r : ℕ) (rs : List ℕ). r ∷ rs) (omega arith) (falls-raised t rest more later)))
-      (decided (ltb a t))
+      (λ (e : keeps s ≡ true).
+      let later : Falling v (map y rest) = rw (kept keeps up e .1) at (fall .1) in
+      rw (e, kept keeps up e .0, kept keeps up e .1) (ap₂ (λ (r : ℕ) (rs : List ℕ). r ∷ rs) (omega arith) (falls-raised keeps rest narrow later)))
+      (λ (e : keeps s ≡ false).
+      rw (e, gone keeps up e, map-gone keeps rest e narrow) (ap (λ (r : ℕ). r ∷ falls-from (y keeps) (map y rest)) (omega (arith, fall .0))))
+      (decided (keeps s))

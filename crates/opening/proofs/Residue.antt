@@ -1,5 +1,5 @@
--- Residues: each opening of a rising list is at most the one before, so that every residue is a true difference and they add up to the
--- grey less the last opening. What the largest residue and its place are is determined.
+-- Residues: each opening by tests that get narrower is at most the one before, so that every residue is a true difference and they add up
+-- to the grey less the last opening. The tests of thresholds that rise get narrower. What the largest residue and its place are is determined.
 use Prim.Native.Nat.{ℕ, zero, suc, _+_, _≤_, _<_}
 use mathlib.Core.Bool.{true}
 use mathlib.Core.List.{List, [], _∷_}
@@ -11,10 +11,11 @@ use borrow.Author.Tests.{leb-true, leb-false, ltb-true, eqb-true, eqb-false, ne-
 use Rattle.sets.specs.Sets.{Positions}
 use Rattle.sets.proofs.Tests.{and-left, and-right}
 use Rattle.connected.specs.Component.{Adjacency}
-use Rattle.opening.specs.Opening.{Increasing, opened}
-use Rattle.opening.specs.Residue.{falls-from, total, last-of, largest, last-place, largest-place, rising, openings-at}
+use Rattle.opening.specs.Opening.{Keeps, Upward, Increasing, at-least, opened-by}
+use Rattle.opening.specs.Residue.{falls-from, total, last-of, largest, last-place, largest-place, rising, thresholds, Narrowing, openings-by}
 use Rattle.opening.proofs.Levels.{cond-case}
-use Rattle.opening.proofs.Threshold.{opened-zero, opened-falls}
+use Rattle.opening.proofs.Opened.{opened-le, opened-mono}
+use Rattle.opening.proofs.Threshold.{at-least-up, at-least-less}
 
 -- greys that never rise, from the first one on
 abbrev pub Falling : ℕ → List ℕ → Type 0
@@ -35,25 +36,36 @@ unfolding falls-from total last-of
 falls-total grey [] f = omega arith
 falls-total grey (next ∷ rest) f = omega (arith, f .0, falls-total next rest (f .1))
 
-module _ (n : ℕ) (adj : Adjacency) (attr : Positions → ℕ) (rise : Increasing n attr) (g : ℕ → ℕ) (p : ℕ) (below : p < n) where
-  -- the openings at rising thresholds fall
-  pub openings-fall : (low : ℕ) (steps : List ℕ) → rising low steps ≡ true
-      → Falling (opened n adj attr low g p) (openings-at n adj attr steps g p)
-  unfolding rising
-  openings-fall low [] up = tt
-  openings-fall low (t ∷ rest) up = (
-    opened-falls n adj attr rise low t g (omega (arith, ltb-true low t (and-left (ltb low t) (rising t rest) up))) p below,
-    openings-fall t rest (and-right (ltb low t) (rising t rest) up),
-  )
+-- thresholds that rise give tests that get narrower
+pub thresholds-narrow : (n : ℕ) (attr : Positions → ℕ) → Increasing n attr → (low : ℕ) (steps : List ℕ) → rising low steps ≡ true
+    → Narrowing n (at-least attr low) (thresholds attr steps)
+unfolding rising
+thresholds-narrow n attr rise low [] up = tt
+thresholds-narrow n attr rise low (t ∷ rest) up =
+    let above : low < t = ltb-true low t (and-left (ltb low t) (rising t rest) up) in (
+      at-least-up n attr rise t,
+      at-least-less attr low t (omega arith),
+      thresholds-narrow n attr rise t rest (and-right (ltb low t) (rising t rest) up),
+    )
 
-  -- from the grey itself on, since threshold 0 changes nothing
-  pub residues-fall : (steps : List ℕ) → rising 0 steps ≡ true → Falling (g p) (openings-at n adj attr steps g p)
-  residues-fall steps up = rw (← opened-zero n adj attr g p below) (openings-fall 0 steps up)
+module _ (n : ℕ) (adj : Adjacency) (g : ℕ → ℕ) (p : ℕ) (below : p < n) where
+  -- the openings by narrowing tests fall
+  openings-fall : (wide : Keeps) (tests : List Keeps) → Upward n wide → Narrowing n wide tests
+      → Falling (opened-by n adj wide g p) (openings-by n adj tests g p)
+  openings-fall wide [] up narrow = tt
+  openings-fall wide (keeps ∷ rest) up (more, inside, narrow) =
+      (opened-mono n adj keeps wide g g more up inside (λ q b. omega arith) p below, openings-fall keeps rest more narrow)
+
+  -- from the grey itself on, which no opening raises
+  pub residues-fall : (wide : Keeps) (tests : List Keeps) → Narrowing n wide tests → Falling (g p) (openings-by n adj tests g p)
+  residues-fall wide [] narrow = tt
+  residues-fall wide (keeps ∷ rest) (more, inside, narrow) =
+      (opened-le n adj keeps g p below, openings-fall keeps rest more narrow)
 
   -- at every pixel all residues and the last opening add up to its grey
-  pub residues-total : (steps : List ℕ) → rising 0 steps ≡ true
-      → total (falls-from (g p) (openings-at n adj attr steps g p)) + last-of (g p) (openings-at n adj attr steps g p) ≡ g p
-  residues-total steps up = falls-total (g p) (openings-at n adj attr steps g p) (residues-fall steps up)
+  pub residues-total : (wide : Keeps) (tests : List Keeps) → Narrowing n wide tests
+      → total (falls-from (g p) (openings-by n adj tests g p)) + last-of (g p) (openings-by n adj tests g p) ≡ g p
+  residues-total wide tests narrow = falls-total (g p) (openings-by n adj tests g p) (residues-fall wide tests narrow)
 
 -- no residue is above the largest
 pub largest-bound : (rs : List ℕ) (i : ℕ) → getD rs i 0 ≤ largest rs

@@ -1,6 +1,6 @@
 -- Openings at a threshold of an increasing attribute: the laws of openings by what they keep, as they read for thresholds.
 use Prim.Native.Nat.{ℕ, _≤_, _<_, max}
-use mathlib.Core.Bool.{_&&_}
+use mathlib.Core.Bool.{true, _&&_}
 use mathlib.Core.Path.{_≡_, _∙_}
 use native.Mathlib.Omega.{arith}
 use lib.Dec.{leb}
@@ -15,6 +15,10 @@ use Rattle.opening.proofs.Absorb.{opened-absorb, keeps-both}
 -- "t or more" holds of more as a set grows
 pub at-least-up : (n : ℕ) (attr : Positions → ℕ) → Increasing n attr → (t : ℕ) → Upward n (at-least attr t)
 at-least-up n attr rise t s u inside e = le-leb t (attr u) (omega (arith, leb-true t (attr s) e, rise s u inside))
+
+-- what is at a threshold or more is at a smaller one or more
+pub at-least-less : (attr : Positions → ℕ) (t u : ℕ) → t ≤ u → (s : Positions) → at-least attr u s ≡ true → at-least attr t s ≡ true
+at-least-less attr t u less s e = le-leb t (attr s) (omega (arith, leb-true u (attr s) e))
 
 -- at two thresholds or more is at the larger or more
 both-at-least : (a s t : ℕ) → (leb s a && leb t a) ≡ leb (max s t) a
@@ -43,7 +47,7 @@ module _ (n : ℕ) (adj : Adjacency) (attr : Positions → ℕ) where
         g
         (at-least-up n attr rise u)
         (at-least-up n attr rise t)
-        (λ s e. le-leb t (attr s) (omega (arith, leb-true u (attr s) e)))
+        (at-least-less attr t u larger)
         (λ q b. omega arith)
         p
         below

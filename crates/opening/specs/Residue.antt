@@ -1,11 +1,13 @@
--- Residues along a list of pictures, and the two maps that they give at a pixel.
+-- Residues along a list of openings, each by a test on sets of pixels, and the two maps that they give at a pixel. A list of thresholds
+-- gives its tests by an attribute.
 use Prim.Native.Nat.{ℕ, suc, _+_, _-_}
 use mathlib.Core.Bool.{Bool, true, cond, _&&_}
 use mathlib.Core.List.{List, [], _∷_, map}
+use mathlib.Core.Path.{_≡_}
 use lib.Dec.{leb, ltb, eqb}
 use Rattle.sets.specs.Sets.{Positions}
 use Rattle.connected.specs.Component.{Adjacency}
-use Rattle.opening.specs.Opening.{opened}
+use Rattle.opening.specs.Opening.{Keeps, Upward, at-least, opened-by}
 
 -- the falls from each grey to the next, "residue i is opening i less opening i + 1"
 unfoldable pub falls-from : ℕ → List ℕ → List ℕ
@@ -41,14 +43,24 @@ unfoldable pub rising : ℕ → List ℕ → Bool
 rising low [] = true
 rising low (t ∷ rest) = ltb low t && rising t rest
 
--- the greys of one pixel under the openings at the steps
-abbrev pub openings-at : ℕ → Adjacency → (Positions → ℕ) → List ℕ → (ℕ → ℕ) → ℕ → List ℕ
-openings-at n adj attr steps g p = map (λ (t : ℕ). opened n adj attr t g p) steps
+-- the tests of a list of thresholds
+abbrev pub thresholds : (Positions → ℕ) → List ℕ → List Keeps
+thresholds attr steps = map (at-least attr) steps
+
+-- tests that get narrower: each passes as a set grows, and what passes a test passes the one before
+abbrev pub Narrowing : ℕ → Keeps → List Keeps → Type 0
+Narrowing n wide [] = Unit {0}
+Narrowing n wide (keeps ∷ rest) =
+    Upward n keeps × ((s : Positions) → keeps s ≡ true → wide s ≡ true) × Narrowing n keeps rest
+
+-- the greys of one pixel under the openings by the tests
+abbrev pub openings-by : ℕ → Adjacency → List Keeps → (ℕ → ℕ) → ℕ → List ℕ
+openings-by n adj tests g p = map (λ (k : Keeps). opened-by n adj k g p) tests
 
 -- "The residue map holds the largest residue"
-unfoldable pub residue-at : ℕ → Adjacency → (Positions → ℕ) → List ℕ → (ℕ → ℕ) → ℕ → ℕ
-residue-at n adj attr steps g p = largest (falls-from (g p) (openings-at n adj attr steps g p))
+unfoldable pub residue-by : ℕ → Adjacency → List Keeps → (ℕ → ℕ) → ℕ → ℕ
+residue-by n adj tests g p = largest (falls-from (g p) (openings-by n adj tests g p))
 
 -- "The index map holds the largest i + 1 attaining it (16 bits), or 0 where it is 0."
-unfoldable pub index-at : ℕ → Adjacency → (Positions → ℕ) → List ℕ → (ℕ → ℕ) → ℕ → ℕ
-index-at n adj attr steps g p = largest-place (falls-from (g p) (openings-at n adj attr steps g p))
+unfoldable pub index-by : ℕ → Adjacency → List Keeps → (ℕ → ℕ) → ℕ → ℕ
+index-by n adj tests g p = largest-place (falls-from (g p) (openings-by n adj tests g p))

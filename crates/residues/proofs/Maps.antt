@@ -3,9 +3,13 @@ use Prim.Native.Nat.{ℕ, _+_, _*_, _≤_, _<_}
 use mathlib.Core.List.{List}
 use mathlib.Core.Path.{_≡_, refl, ap, subst, _∙_}
 use native.Mathlib.Omega.{arith}
-use lib.ListN.{length, getD, take}
+use lib.ListN.{length, getD, take, length-map}
 use borrow.Author.Tests.{lt-ltb}
+use Rattle.sets.specs.Sets.{Positions}
 use Rattle.sets.proofs.Laws.{table-ext}
+use Rattle.opening.specs.Opening.{Increasing, at-least}
+use Rattle.opening.specs.Residue.{thresholds}
+use Rattle.opening.proofs.Residue.{thresholds-narrow}
 use Rattle.grid.specs.Neighbours.{edge-neighbours}
 use Rattle.grid.specs.Attributes.{attribute}
 use Rattle.grid.proofs.Attributes.{edge-symmetric, attribute-increasing, attribute-some}
@@ -14,7 +18,7 @@ use Rattle.calls.specs.Calls.{grey, residue-map, index-map}
 use Rattle.residues.specs.Passes.{Stands, Given, runs-of, Settled, Progress, holder, spread-over, Spreadable, Ready}
 use Rattle.residues.specs.Recorded.{Recorded, Written}
 use Rattle.residues.proofs.Holding.{words-read}
-use Rattle.residues.proofs.Right.{maps-right}
+use Rattle.residues.proofs.Right.{places-right, maps-right}
 
 pub progress-begins : {picture steps : List ℕ} {m : ℕ} {ws residues indices : List ℕ} → Ready picture steps m ws residues indices
     → Progress (length picture) picture steps (take (3 * length picture) ws) ws residues indices 0
@@ -62,14 +66,20 @@ module _ (w h a : ℕ) (wide : 1 ≤ w) {m : ℕ} {picture steps words ws residu
   maps-grid : (spread-over (w * h) ws residues ≡ residue-map w h a steps picture) × (spread-over (w * h) ws indices ≡ index-map w h a steps picture)
   unfolding residue-map index-map
   maps-grid =
+      let attr : Positions → ℕ = attribute w (w * h) a in
+      let rise : Increasing (w * h) attr = attribute-increasing w (w * h) a in
+      let whole = grid-whole w wide (w * h) (grey picture) in
       let (best, index) =
       maps-right
       (edge-symmetric w)
-      (attribute-increasing w (w * h) a)
       (attribute-some w (w * h) a)
       recorded
-      (grid-whole w wide (w * h) (grey picture))
-      (given .rise)
+      whole
+      (at-least attr 0)
+      (thresholds attr steps)
+      (thresholds-narrow (w * h) attr rise 0 steps (given .rise))
+      (length-map steps (at-least attr))
+      (places-right (edge-symmetric w) rise (attribute-some w (w * h) a) recorded whole steps (given .rise))
       bytes
       (settled-all given prog) in
       (spread-words given prog residues ∙ best, spread-words given prog indices ∙ index)

@@ -9,13 +9,13 @@ use lib.Dec.{eqb, ltb}
 use lib.ListN.{length, getD, set}
 use borrow.Author.Tests.{eq-eqb, lt-ltb, le-ltb, ltb-true}
 use Rattle.opening.proofs.Levels.{cond-case}
-use Rattle.falls.proofs.Outlasted.{outlasted-le}
+use Rattle.falls.proofs.Places.{places-le}
 use Rattle.residues.specs.Settle.{place-of, down, shared-fall, run-of, word-of, best-of, index-of, Settleable, Stored}
 
 place-of-le : (steps : List ℕ) (r parent a : ℕ) → place-of steps r parent a ≤ length steps
 unfolding place-of
 place-of-le steps r parent a =
-    cond-case (λ (k : ℕ). k ≤ length steps) (eqb parent r) (λ e. le-refl (length steps)) (λ e. outlasted-le a steps)
+    cond-case (λ (k : ℕ). k ≤ length steps) (eqb parent r) (λ e. le-refl (length steps)) (λ e. places-le a steps)
 
 -- the root never falls
 pub place-of-root : (steps : List ℕ) (r parent a : ℕ) → parent ≡ r → length steps ≤ place-of steps r parent a

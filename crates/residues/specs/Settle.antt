@@ -7,15 +7,15 @@ use mathlib.Core.Path.{_≡_}
 use lib.Dec.{eqb, ltb}
 use lib.ListN.{length, getD, set}
 use Rattle.opening.specs.Residue.{rising}
-use Rattle.falls.specs.Falls.{outlasted}
+use Rattle.falls.specs.Falls.{places-before}
 
 -- the place of the step at which the node of r falls, by its parent word and its attribute; the number of steps if it never does
 unfoldable pub place-of : List ℕ → ℕ → ℕ → ℕ → ℕ
-place-of steps r parent a = cond (eqb parent r) (length steps) (outlasted a steps)
+place-of steps r parent a = cond (eqb parent r) (length steps) (places-before a steps)
 
 -- a table of the places for the attributes below 256
 pub record Small-places (steps table : List ℕ) : Type 0 where
-  pub each : (a : ℕ) → a < 256 → getD table a 0 ≡ outlasted a steps
+  pub each : (a : ℕ) → a < 256 → getD table a 0 ≡ places-before a steps
 
 -- the fall from r to its parent
 abbrev pub down : List ℕ → ℕ → ℕ → ℕ

@@ -6,7 +6,7 @@ ghost use mathlib.Core.Path.{_≡_};
 ghost use Prim.Native.Nat.{_+_, _*_};
 ghost use lib.ListN.{length, take};
 ghost use Rattle.opening.specs.Residue.{rising};
-ghost use Rattle.falls.specs.Falls.{outlasted};
+ghost use Rattle.falls.specs.Falls.{places-before};
 ghost use Rattle.residues.specs.Settle.{place-of, Small-places, shared-fall, Settleable, Stored};
 ghost use Rattle.residues.specs.Passes.{Given, Progress, Visitable, Spreadable, spread-over, Ready};
 ghost use Rattle.residues.specs.Recorded.{Written};
@@ -14,7 +14,7 @@ ghost use Rattle.residues.specs.Recorded.{Written};
 // How many thresholds of a rising list stand before the first one above `a`.
 fn outlasted_by(steps: &[u32], a: u32) -> usize
     requires { ⌜ rising 0 (now steps) ≡ true ⌝ }
-    ensures { λ r. ⌜ r ≡ outlasted a (now (steps .entry)) ⌝ }
+    ensures { λ r. ⌜ r ≡ places-before a (now (steps .entry)) ⌝ }
 {
     let mut low: usize = 0;
     let mut high = steps.len();

@@ -3,19 +3,19 @@ use Prim.Native.Nat.{_-_, _≤_}
 use borrow.Author.Needs.{needs}
 use native.Mathlib.Omega.{arith}
 use lib.ListN.{length}
-use Rattle.falls.specs.Falls.{outlasted}
-use Rattle.falls.proofs.Outlasted.{outlasted-le, outlasted-before, outlasted-past}
+use Rattle.falls.specs.Falls.{places-before}
+use Rattle.falls.proofs.Places.{places-le, places-above, places-past}
 use Rattle.residues.proofs.passes.outlasted_by.Statement.{statement}
 use Rattle.residues.proofs.passes.outlasted_by.Tie as tie
 
 abbrev Inv-loop : tie.InvT-loop
-Inv-loop steps a low₀ high₀ low high = (low ≤ outlasted a steps) × (outlasted a steps ≤ high) × (high ≤ length steps)
+Inv-loop steps a low₀ high₀ low high = (low ≤ places-before a steps) × (places-before a steps ≤ high) × (high ≤ length steps)
 
 abbrev μ-loop : tie.MeasureT-loop
 μ-loop steps a low₀ high₀ low high = high - low
 
 loop-holds : tie.Need-loop-holds Inv-loop μ-loop
-loop-holds c = omega (arith, outlasted-le (c .args .a) (c .args .steps .now))
+loop-holds c = omega (arith, places-le (c .args .a) (c .args .steps .now))
 
 sub-middle : tie.Need-sub-middle Inv-loop μ-loop
 sub-middle c = omega arith
@@ -33,7 +33,7 @@ loop-less : tie.Need-loop-less Inv-loop μ-loop
 loop-less c = omega arith
 
 loop-again : tie.Need-loop-again Inv-loop μ-loop
-loop-again c = omega (arith, outlasted-before (c .before .before .before .before .args .a) (c .before .before .before .before .args .steps .now) _ (c .if1 .taken))
+loop-again c = omega (arith, places-above (c .before .before .before .before .args .a) (c .before .before .before .before .args .steps .now) _ (c .if1 .taken))
 
 add-low : tie.Need-add-low Inv-loop μ-loop
 add-low c = omega arith
@@ -42,7 +42,7 @@ loop-less-2 : tie.Need-loop-less-2 Inv-loop μ-loop
 loop-less-2 c = omega arith
 
 loop-again-2 : tie.Need-loop-again-2 Inv-loop μ-loop
-loop-again-2 c = omega (arith, outlasted-past (c .before .before .before .before .args .a) 0 (c .before .before .before .before .args .steps .now) (c .before .before .before .before .pre) _ (omega arith) (c .if1 .left))
+loop-again-2 c = omega (arith, places-past (c .before .before .before .before .args .a) (c .before .before .before .before .args .steps .now) (c .before .before .before .before .pre) _ (omega arith) (c .if1 .left))
 
 returns : tie.Need-returns Inv-loop μ-loop
 returns c = omega arith

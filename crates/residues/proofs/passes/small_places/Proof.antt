@@ -4,14 +4,14 @@ use mathlib.Core.Path.{_≡_}
 use native.Mathlib.Omega.{arith}
 use lib.ListN.{getD, length, length-set}
 use borrow.Author.Needs.{needs}
-use Rattle.falls.specs.Falls.{outlasted}
+use Rattle.falls.specs.Falls.{places-before}
 use Rattle.flood.proofs.Tables.{stored-more}
 use Rattle.residues.proofs.passes.small_places.Statement.{statement}
 use Rattle.residues.proofs.passes.small_places.Tie as tie
 
 abbrev Inv-loop : tie.InvT-loop
 Inv-loop steps table₀ a₀ table a =
-    (a ≤ 256) × (length table ≡ 256) × ((k : ℕ) → k < a → getD table k 0 ≡ outlasted k steps)
+    (a ≤ 256) × (length table ≡ 256) × ((k : ℕ) → k < a → getD table k 0 ≡ places-before k steps)
 
 abbrev μ-loop : tie.MeasureT-loop
 μ-loop steps table₀ a₀ table a = 256 - a
@@ -42,7 +42,7 @@ loop-again c =
     let at = c .before .before .loop in (
       search needs,
       simp length-set (at .inv .1),
-      stored-more (at .table) (λ k. outlasted k _) (at .a) _ (omega (arith, at .inv .1)) (at .inv .2) (c .outlasted-by .ensures),
+      stored-more (at .table) (λ k. places-before k _) (at .a) _ (omega (arith, at .inv .1)) (at .inv .2) (c .outlasted-by .ensures),
     )
 
 returns : tie.Need-returns Inv-loop μ-loop
