@@ -1,18 +1,22 @@
 -- What holds of a call that is accepted: each test that judges it was passed. Assumes nothing.
-use Prim.Native.Nat.{ℕ, _≤_}
+use Prim.Native.Nat.{ℕ, _*_, _≤_}
 use mathlib.Core.Bool.{true, false, _&&_}
 use mathlib.Core.List.{List, [], _∷_}
 use mathlib.Core.Path.{_≡_, refl}
 use native.Mathlib.Omega.{arith}
 use lib.Dec.{leb}
 use lib.ListN.{length}
-use borrow.Author.Tests.{leb-true}
+use borrow.Author.Tests.{leb-true, eqb-true}
 use Rattle.sets.proofs.Tests.{and-left, and-right}
 use Rattle.opening.specs.Residue.{rising}
-use Rattle.causes.specs.Bounds.{most-steps}
+use Rattle.grid.specs.Pixels.{pixels}
+use Rattle.grid.specs.declared.Grid.{Grid}
+use Rattle.causes.specs.Bounds.{most-steps, words-a-pixel}
+use Rattle.causes.specs.Sides.{sides-fit}
 pub use Rattle.causes.proofs.Laws.{Bounded, bounded}
 use Rattle.causes.specs.declared.Cause.{Cause}
-use Rattle.calls.specs.Judging.{all-good, steps-good, Test, also, judged-on, judged, accepted}
+use Rattle.calls.specs.Judging.{threshold-good, all-good, steps-good, Test, also, judged-on, judged, accepted}
+use Rattle.calls.specs.Calls.{Build-call, build-tests, build-verdict, Open-call, open-tests, open-verdict, Map-call, map-tests, map-verdict}
 use Rattle.calls.specs.declared.Verdict.{Verdict}
 use Rattle.calls.specs.declared.Verdict.the-variants.{Accepted, Refused}
 
@@ -56,6 +60,52 @@ unfolding Held also
 held [] e = tt
 held ((true, cause) ∷ later) e = (refl, held later e)
 held ((false, cause) ∷ later) e = absurd (refused-on cause later e)
+
+-- what an accepted call has passed whatever else it names
+pub record Passed (grid : Grid) (bytes words : ℕ) : Type 0 where
+  pub sides : sides-fit (grid .width) (grid .height) ≡ true
+  pub a-byte-each : bytes ≡ pixels grid
+  pub words-each : words ≡ words-a-pixel * pixels grid
+
+pub build-passed : (call : Build-call) → build-verdict call ≡ Accepted → Passed (call .grid) (length (call .picture)) (length (call .workspace))
+unfolding Held
+build-passed call ok =
+    let h = held (build-tests call) ok in
+    record { sides = h .0; a-byte-each = eqb-true _ _ (h .1 .0); words-each = eqb-true _ _ (h .1 .1 .1 .0) }
+
+pub record Open-passed (call : Open-call) : Type 0 where
+  pub common : Passed (call .grid) (length (call .picture)) (length (call .workspace))
+  pub threshold : threshold-good (call .threshold) ≡ true
+  pub output : length (call .output) ≡ pixels (call .grid)
+
+pub open-passed : (call : Open-call) → open-verdict call ≡ Accepted → Open-passed call
+unfolding Held
+open-passed call ok =
+    let h = held (open-tests call) ok in
+    let named = h .1 .1 .1 in
+    record {
+      common = record { sides = h .0; a-byte-each = eqb-true _ _ (h .1 .0); words-each = eqb-true _ _ (named .1 .0) };
+      threshold = named .0;
+      output = eqb-true _ _ (named .1 .1 .0);
+    }
+
+pub record Map-passed (call : Map-call) : Type 0 where
+  pub common : Passed (call .grid) (length (call .picture)) (length (call .workspace))
+  pub steps : steps-good (call .steps) ≡ true
+  pub residue : length (call .residue) ≡ pixels (call .grid)
+  pub index : length (call .index) ≡ pixels (call .grid)
+
+pub map-passed : (call : Map-call) → map-verdict call ≡ Accepted → Map-passed call
+unfolding Held
+map-passed call ok =
+    let h = held (map-tests call) ok in
+    let named = h .1 .1 .1 in
+    record {
+      common = record { sides = h .0; a-byte-each = eqb-true _ _ (h .1 .0); words-each = eqb-true _ _ (named .1 .0) };
+      steps = named .0;
+      residue = eqb-true _ _ (named .1 .1 .0);
+      index = eqb-true _ _ (named .1 .1 .1 .0);
+    }
 
 -- the test and the verdict
 pub accepted-verdict : (verdict : Verdict) → accepted verdict ≡ true → verdict ≡ Accepted

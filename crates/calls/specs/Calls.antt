@@ -16,7 +16,7 @@ use Rattle.opening.specs.Residue.{thresholds, residue-by, index-by}
 use Rattle.tree.specs.Tree.{workspace, number-of-nodes}
 use Rattle.causes.specs.Causes.{number-of}
 use Rattle.causes.specs.declared.Cause.the-variants.{Steps}
-use Rattle.calls.specs.Judging.{threshold-good, steps-good, judged, picture-tests, workspace-test, output-test}
+use Rattle.calls.specs.Judging.{threshold-good, steps-good, Test, judged, picture-tests, workspace-test, output-test}
 use Rattle.calls.specs.declared.Verdict.{Verdict}
 use Rattle.calls.specs.declared.Verdict.the-variants.{Accepted, Refused}
 use Rattle.calls.specs.declared.Built.{Built}
@@ -61,13 +61,15 @@ abbrev pub build-call : {E F : Type 0} → Both (RefT (List ℕ)) E → Grid →
 build-call picture grid attribute workspace =
     record { picture = now (picture .entry); grid = grid; attribute = attribute; workspace = now (workspace .entry) }
 
--- its causes, in order
-abbrev pub build-verdict : Build-call → Verdict
-build-verdict call =
-    judged
-    (picture-tests (call .grid) (length (call .picture)) (call .attribute)
+-- its tests, in order
+abbrev pub build-tests : Build-call → List Test
+build-tests call =
+    picture-tests (call .grid) (length (call .picture)) (call .attribute)
     ++ workspace-test (call .grid) (length (call .workspace))
-    ∷ [])
+    ∷ []
+
+abbrev pub build-verdict : Build-call → Verdict
+build-verdict call = judged (build-tests call)
 
 -- "Building answers the number of nodes."
 abbrev pub built-by : Verdict → ℕ → Built
@@ -109,15 +111,17 @@ open-call picture grid attribute threshold workspace output =
       output = now (output .entry);
     }
 
--- its causes, in order; the verdict is its answer
-abbrev pub open-verdict : Open-call → Verdict
-open-verdict call =
-    judged
-    (picture-tests (call .grid) (length (call .picture)) (call .attribute)
+-- its tests, in order; the verdict is its answer
+abbrev pub open-tests : Open-call → List Test
+open-tests call =
+    picture-tests (call .grid) (length (call .picture)) (call .attribute)
     ++ (threshold-good (call .threshold), Steps)
     ∷ workspace-test (call .grid) (length (call .workspace))
     ∷ output-test (call .grid) (length (call .output))
-    ∷ [])
+    ∷ []
+
+abbrev pub open-verdict : Open-call → Verdict
+open-verdict call = judged (open-tests call)
 
 -- the workspace and the output after it
 unfoldable pub open-workspace : Open-call → List ℕ
@@ -153,16 +157,18 @@ map-call picture grid attribute steps workspace residue index =
       index = now (index .entry);
     }
 
--- its causes, in order; the verdict is its answer
-abbrev pub map-verdict : Map-call → Verdict
-map-verdict call =
-    judged
-    (picture-tests (call .grid) (length (call .picture)) (call .attribute)
+-- its tests, in order; the verdict is its answer
+abbrev pub map-tests : Map-call → List Test
+map-tests call =
+    picture-tests (call .grid) (length (call .picture)) (call .attribute)
     ++ (steps-good (call .steps), Steps)
     ∷ workspace-test (call .grid) (length (call .workspace))
     ∷ output-test (call .grid) (length (call .residue))
     ∷ output-test (call .grid) (length (call .index))
-    ∷ [])
+    ∷ []
+
+abbrev pub map-verdict : Map-call → Verdict
+map-verdict call = judged (map-tests call)
 
 -- the workspace and the two maps after it
 unfoldable pub map-workspace : Map-call → List ℕ

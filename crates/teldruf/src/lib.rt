@@ -6,10 +6,13 @@ ghost use lib.ListN.{length};
 ghost use Rattle.causes.specs.Causes.{number-of};
 ghost use Rattle.pgm.specs.Read.{read-answer, found-numbers};
 ghost use Rattle.pgm.specs.Write.{write-answer, written-numbers, buffer-after};
-ghost use Rattle.calls.specs.Judging.{build-verdict, verdict-numbers};
-ghost use Rattle.calls.specs.Calls.{built, built-numbers, call-workspace, opening-judged, opening-output, map-judged, map-residues, map-indices};
+ghost use Rattle.grid.specs.Pixels.{grid-of};
+ghost use Rattle.calls.specs.Judging.{verdict-numbers};
+ghost use Rattle.calls.specs.Calls.{build-call, built, built-numbers, build-workspace, open-call, open-verdict, open-workspace, open-output};
+ghost use Rattle.calls.specs.Calls.{map-call, map-verdict, map-workspace, map-residue, map-index};
 ghost use Rattle.teldruf.specs.Codes.{code-of, number-code, head-with};
 use causes::Cause;
+use grid::Grid;
 
 fn refused(cause: Cause) -> u64
     ensures { λ r. ⌜ r ≡ code-of (number-of cause ∷ []) ⌝ }
@@ -67,10 +70,10 @@ pub extern "C" fn teldruf_build(
     attribute: u32,
     workspace: &mut [u32],
 ) -> u64
-    ensures answer { λ r. ⌜ r ≡ code-of (built-numbers (built width height attribute (now (picture .entry)) (now (workspace .entry)))) ⌝ }
-    ensures workspace { λ _. ⌜ now (workspace .exit) ≡ call-workspace (build-verdict width height attribute (length (now (picture .entry))) (length (now (workspace .entry)))) width height attribute (now (picture .entry)) (now (workspace .entry)) ⌝ }
+    ensures answer { λ r. ⌜ r ≡ code-of (built-numbers (built (build-call picture (grid-of width height) attribute workspace))) ⌝ }
+    ensures workspace { λ _. ⌜ now (workspace .exit) ≡ build-workspace (build-call picture (grid-of width height) attribute workspace) ⌝ }
 {
-    match max_tree::build(picture, width, height, attribute, workspace) {
+    match max_tree::build(picture, Grid { width, height }, attribute, workspace) {
         calls::Built::Nodes(total) => total as u64,
         calls::Built::Refused(cause) => refused(cause),
     }
@@ -87,14 +90,13 @@ pub extern "C" fn teldruf_open(
     workspace: &mut [u32],
     output: &mut [u8],
 ) -> u64
-    ensures answer { λ r. ⌜ r ≡ code-of (verdict-numbers (opening-judged width height attribute threshold (now (picture .entry)) (now (workspace .entry)) (now (output .entry)))) ⌝ }
-    ensures workspace { λ _. ⌜ now (workspace .exit) ≡ call-workspace (opening-judged width height attribute threshold (now (picture .entry)) (now (workspace .entry)) (now (output .entry))) width height attribute (now (picture .entry)) (now (workspace .entry)) ⌝ }
-    ensures output { λ _. ⌜ now (output .exit) ≡ opening-output width height attribute threshold (now (picture .entry)) (now (workspace .entry)) (now (output .entry)) ⌝ }
+    ensures answer { λ r. ⌜ r ≡ code-of (verdict-numbers (open-verdict (open-call picture (grid-of width height) attribute threshold workspace output))) ⌝ }
+    ensures workspace { λ _. ⌜ now (workspace .exit) ≡ open-workspace (open-call picture (grid-of width height) attribute threshold workspace output) ⌝ }
+    ensures output { λ _. ⌜ now (output .exit) ≡ open-output (open-call picture (grid-of width height) attribute threshold workspace output) ⌝ }
 {
     match openings::open(
         picture,
-        width,
-        height,
+        Grid { width, height },
         attribute,
         threshold,
         workspace,
@@ -117,15 +119,14 @@ pub extern "C" fn teldruf_map(
     residue: &mut [u8],
     index: &mut [u16],
 ) -> u64
-    ensures answer { λ r. ⌜ r ≡ code-of (verdict-numbers (map-judged width height attribute (now (steps .entry)) (now (picture .entry)) (now (workspace .entry)) (now (residue .entry)) (now (index .entry)))) ⌝ }
-    ensures workspace { λ _. ⌜ now (workspace .exit) ≡ call-workspace (map-judged width height attribute (now (steps .entry)) (now (picture .entry)) (now (workspace .entry)) (now (residue .entry)) (now (index .entry))) width height attribute (now (picture .entry)) (now (workspace .entry)) ⌝ }
-    ensures residue { λ _. ⌜ now (residue .exit) ≡ map-residues width height attribute (now (steps .entry)) (now (picture .entry)) (now (workspace .entry)) (now (residue .entry)) (now (index .entry)) ⌝ }
-    ensures index { λ _. ⌜ now (index .exit) ≡ map-indices width height attribute (now (steps .entry)) (now (picture .entry)) (now (workspace .entry)) (now (residue .entry)) (now (index .entry)) ⌝ }
+    ensures answer { λ r. ⌜ r ≡ code-of (verdict-numbers (map-verdict (map-call picture (grid-of width height) attribute steps workspace residue index))) ⌝ }
+    ensures workspace { λ _. ⌜ now (workspace .exit) ≡ map-workspace (map-call picture (grid-of width height) attribute steps workspace residue index) ⌝ }
+    ensures residue { λ _. ⌜ now (residue .exit) ≡ map-residue (map-call picture (grid-of width height) attribute steps workspace residue index) ⌝ }
+    ensures index { λ _. ⌜ now (index .exit) ≡ map-index (map-call picture (grid-of width height) attribute steps workspace residue index) ⌝ }
 {
     match residues::map(
         picture,
-        width,
-        height,
+        Grid { width, height },
         attribute,
         steps,
         workspace,
