@@ -5,16 +5,17 @@ use mathlib.Core.Path.{_≡_, refl, sym, _∙_, ap}
 use native.Mathlib.Omega.{arith}
 use lib.ListN.{length, take}
 use lib.Seq.{length-take-le, take-at, length-sets}
-use Rattle.calls.specs.Calls.{map-judged}
+use Rattle.causes.specs.Bounds.{most-steps}
+use Rattle.calls.specs.Calls.{Map-call, map-verdict}
 use Rattle.calls.specs.declared.Verdict.the-variants.{Accepted}
-use Rattle.calls.proofs.Accepted.{passed, bounded}
+use Rattle.calls.proofs.Accepted.{map-passed, bounded}
 use Rattle.steps.specs.Answer.{steps-in, parse-answer, steps-with, steps-after}
 use Rattle.steps.specs.declared.Parsed.{Parsed}
 use Rattle.steps.specs.declared.Parsed.the-variants.{Steps, Refused as NotParsed}
 use Rattle.steps.proofs.Laws.{accepted-file}
 use Rattle.basin.specs.Loads.{loaded-within}
-use Rattle.basin.specs.declared.files.Loaded.{Loaded}
-use Rattle.basin.specs.declared.files.Loaded.the-variants.{Bytes, Failed}
+use Rattle.basin_judging.specs.declared.Loaded.{Loaded}
+use Rattle.basin_judging.specs.declared.Loaded.the-variants.{Bytes, Failed}
 
 pub taken : (l : List ℕ) (k : ℕ) → k ≤ length l → k ≡ length (take k l)
 taken l k h = sym (length-take-le k l h)
@@ -26,16 +27,15 @@ returned part l rest k h kept =
     ap length (take-at part rest k e) ∙ e
 
 -- a picture whose maps are done has a column
-pub done-wide : (w h a : ℕ) (steps picture workspace residue index : List ℕ) → map-judged w h a steps picture workspace residue index ≡ Accepted → 0 < w
-done-wide w h a steps picture workspace residue index e =
-    bounded w h (passed w h a (length picture) _ (length workspace) _ e .sides) .wide
+pub done-wide : (call : Map-call) → map-verdict call ≡ Accepted → 0 < call .grid .width
+done-wide call ok = bounded (call .grid .width) (call .grid .height) (map-passed call ok .common .sides) .wide
 
 -- the steps that parsing leaves: as many entries as were lent, room for all that it counts
 steps-length : (answer : Parsed) (thresholds lent : List ℕ) → length (steps-with answer thresholds lent) ≡ length lent
 steps-length (Steps attribute count) thresholds lent = length-sets lent 0 thresholds
 steps-length (NotParsed cause) thresholds lent = refl
 
-pub steps-room : (file lent after : List ℕ) (attribute count : ℕ) → after ≡ steps-after file lent → length lent ≡ 256 → parse-answer file ≡ Steps attribute count → count ≤ length after
+pub steps-room : (file lent after : List ℕ) (attribute count : ℕ) → after ≡ steps-after file lent → length lent ≡ most-steps → parse-answer file ≡ Steps attribute count → count ≤ length after
 unfolding steps-after
 steps-room file lent after attribute count e long f =
     omega (

@@ -1,7 +1,7 @@
 -- What loading a file promises: no more bytes than there is room for.
 use Prim.Native.Nat.{ℕ, _≤_}
-use Rattle.basin.specs.declared.files.Loaded.{Loaded}
-use Rattle.basin.specs.declared.files.Loaded.the-variants.{Bytes, Failed}
+use Rattle.basin_judging.specs.declared.Loaded.{Loaded}
+use Rattle.basin_judging.specs.declared.Loaded.the-variants.{Bytes, Failed}
 
 abbrev pub loaded-within : Loaded → ℕ → Type 0
 loaded-within (Bytes count) room = count ≤ room

@@ -1,12 +1,7 @@
 // A file's bytes, up to the length of a buffer. No contract can say what is read.
 ghost use lib.ListN.{length};
 ghost use Rattle.basin.specs.Loads.{loaded-within};
-
-// How many bytes a file has, up to the buffer's length, or that it was not opened or read.
-pub enum Loaded {
-    Bytes(usize),
-    Failed,
-}
+use basin_judging::Loaded;
 
 // Reads until the buffer is full or the file ends. A read that fails is told from the end of the file.
 fn read_on(fd: i32, buffer: &mut [u8]) -> Loaded

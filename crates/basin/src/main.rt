@@ -1,15 +1,17 @@
 // Sizes the picture of basin.pgm by the steps of steps.tsv, both in the working folder, and prints a line for each pixel: its row, column,
 // grey, residue and index. A refusal prints its one line alone, since nothing is printed before every cause is judged.
 ghost use mathlib.Core.Path.{_≡_};
-ghost use Prim.Native.Nat.{_≤_, _<_};
+ghost use Prim.Native.Nat.{_*_, _≤_, _<_};
 ghost use lib.ListN.{length};
+ghost use Rattle.causes.specs.Bounds.{words-a-pixel};
+ghost use Rattle.basin_judging.specs.Judging.{most-sized};
 
 mod files;
-mod judging;
 
+use basin_judging::Job;
+use basin_judging::Lengths;
 use causes::Cause;
-use judging::Job;
-use judging::Lengths;
+use grid::Grid;
 use libc::STDOUT_FILENO;
 
 fn text(s: &[u8]) {
@@ -68,19 +70,19 @@ fn listing(picture: &[u8], width: u32, residue: &[u8], index: &[u16])
 }
 
 fn words() -> [u32; 12288]
-    ensures { λ r. ⌜ 12288 ≡ length r ⌝ }
+    ensures { λ r. ⌜ words-a-pixel * most-sized ≡ length r ⌝ }
 {
     [0; 12288]
 }
 
 fn residues_room() -> [u8; 2048]
-    ensures { λ r. ⌜ 2048 ≡ length r ⌝ }
+    ensures { λ r. ⌜ most-sized ≡ length r ⌝ }
 {
     [0; 2048]
 }
 
 fn indices_room() -> [u16; 2048]
-    ensures { λ r. ⌜ 2048 ≡ length r ⌝ }
+    ensures { λ r. ⌜ most-sized ≡ length r ⌝ }
 {
     [0; 2048]
 }
@@ -88,44 +90,43 @@ fn indices_room() -> [u16; 2048]
 // Prints the maps of a picture, in memory that is lent for it.
 fn sized(
     picture: &[u8],
-    width: u32,
-    height: u32,
+    grid: Grid,
     attribute: u32,
     steps: &[u32],
     workspace: &mut [u32],
     residue: &mut [u8],
     index: &mut [u16],
 )
-    requires { ⌜ (length (now picture) ≤ 2048) × (12288 ≡ length (now workspace)) × (2048 ≡ length (now residue)) × (2048 ≡ length (now index)) ⌝ }
+    requires { ⌜ length (now picture) ≤ most-sized ⌝ }
+    requires { ⌜ words-a-pixel * most-sized ≡ length (now workspace) ⌝ }
+    requires { ⌜ (most-sized ≡ length (now residue)) × (most-sized ≡ length (now index)) ⌝ }
 {
     let n = picture.len();
     let mapped = residues::map(
         picture,
-        width,
-        height,
+        grid,
         attribute,
         steps,
-        &mut workspace[..6 * n],
+        &mut workspace[..causes::WORDS_A_PIXEL * n],
         &mut residue[..n],
         &mut index[..n],
     );
     match mapped {
-        calls::Verdict::Accepted => listing(picture, width, &residue[..n], &index[..n]),
+        calls::Verdict::Accepted => listing(picture, grid.width, &residue[..n], &index[..n]),
         calls::Verdict::Refused(cause) => refused(cause),
     }
 }
 
 // Prints the maps of a picture of at most 2,048 pixels.
-fn maps(picture: &[u8], width: u32, height: u32, attribute: u32, steps: &[u32])
-    requires { ⌜ length (now picture) ≤ 2048 ⌝ }
+fn maps(picture: &[u8], grid: Grid, attribute: u32, steps: &[u32])
+    requires { ⌜ length (now picture) ≤ most-sized ⌝ }
 {
     let mut workspace = words();
     let mut residue = residues_room();
     let mut index = indices_room();
     sized(
         picture,
-        width,
-        height,
+        grid,
         attribute,
         steps,
         &mut workspace,
@@ -137,19 +138,12 @@ fn maps(picture: &[u8], width: u32, height: u32, attribute: u32, steps: &[u32])
 // Prints what the two files' bytes give.
 fn answer(file: &[u8], list: &[u8]) {
     let mut thresholds = [0u32; 256];
-    match judging::judge(file, list, &mut thresholds) {
+    match basin_judging::judge(file, list, &mut thresholds) {
         Job::Size {
-            width,
-            height,
+            grid,
             attribute,
             count,
-        } => maps(
-            pgm::raster(file),
-            width,
-            height,
-            attribute,
-            &thresholds[..count],
-        ),
+        } => maps(pgm::raster(file), grid, attribute, &thresholds[..count]),
         Job::Refused(cause) => refused(cause),
     }
 }
@@ -159,7 +153,7 @@ fn main() {
     let mut steps = [0u8; 4097];
     let a = files::load(b"basin.pgm", &mut file);
     let b = files::load(b"steps.tsv", &mut steps);
-    match judging::both(a, b) {
+    match basin_judging::both(a, b) {
         Lengths::Both { picture, list } => answer(&file[..picture], &steps[..list]),
         Lengths::Refused(cause) => refused(cause),
     }

@@ -1,3 +1,4 @@
+pub mod Grids
 pub mod Attributes
 pub mod Sides
 pub mod Whole

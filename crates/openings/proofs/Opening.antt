@@ -1,103 +1,93 @@
 -- What an opening call answers and writes: refused, it leaves all as it was; accepted, the pass over the record of the picture opens it,
 -- under the neighbours and the attributes of the grid. Assumes nothing.
-use Prim.Native.Nat.{ℕ, _*_, _≤_}
-use mathlib.Core.Bool.{Bool}
+use Prim.Native.Nat.{ℕ, _≤_}
 use mathlib.Core.List.{List}
 use mathlib.Core.Path.{_≡_, refl, sym, _∙_}
-use lib.Dec.{eqb}
-use borrow.Author.Tests.{eqb-true}
 use lib.ListN.{length}
-use Rattle.grid.specs.Neighbours.{edge-neighbours}
+use Rattle.grid.specs.Pixels.{pixels}
+use Rattle.grid.specs.Neighbours.{adjacent}
 use Rattle.grid.specs.Attributes.{attribute}
-use Rattle.grid.proofs.Attributes.{edge-symmetric, attribute-increasing, attribute-some}
+use Rattle.grid.specs.declared.Grid.{Grid}
+use Rattle.grid.proofs.Attributes.{adjacent-symmetric, attribute-increasing, attribute-some}
 use Rattle.grid.proofs.Whole.{grid-whole}
 use Rattle.causes.specs.declared.Cause.{Cause}
-use Rattle.calls.specs.Judging.{threshold-good, call-verdict, verdict-numbers}
-use Rattle.calls.specs.Calls.{grey, opened-picture, record-of, call-workspace, opening-judged, opening-output}
+use Rattle.calls.specs.Judging.{verdict-numbers}
+use Rattle.calls.specs.Calls.{grey, opened-picture, record-of, Open-call, open-verdict, open-workspace, open-output}
 use Rattle.calls.specs.declared.Verdict.{Verdict}
 use Rattle.calls.specs.declared.Verdict.the-variants.{Accepted, Refused}
-use Rattle.calls.proofs.Accepted.{Passed, passed, bounded}
+use Rattle.calls.proofs.Accepted.{Passed, Open-passed, open-passed, bounded}
 use Rattle.openings.specs.Climbing.{Climbable, Opened-before}
 use Rattle.openings.proofs.Record.{record-climbable, pass-opened}
 
-module _ (w h a : ℕ) (picture : List ℕ) where
-  pub record-of-climbable : length picture ≡ w * h → Climbable picture (record-of w h a picture) (w * h)
+module _ (grid : Grid) (a : ℕ) (picture : List ℕ) where
+  pub record-of-climbable : length picture ≡ pixels grid → Climbable picture (record-of grid a picture) (pixels grid)
   record-of-climbable size =
-      record-climbable (w * h) (edge-neighbours w) (edge-symmetric w) (attribute w (w * h) a) (attribute-some w (w * h) a) picture size
+      record-climbable (pixels grid) (adjacent grid) (adjacent-symmetric grid) (attribute grid a) (attribute-some grid a) picture size
 
-  pub pass-opens : 1 ≤ w → (t : ℕ) (output : List ℕ) → length output ≡ w * h
-      → Opened-before picture (record-of w h a picture) (w * h) t (w * h) output
-      → output ≡ opened-picture w h a t picture
+  pub pass-opens : 1 ≤ grid .width → (t : ℕ) (output : List ℕ) → length output ≡ pixels grid
+      → Opened-before picture (record-of grid a picture) (pixels grid) t (pixels grid) output
+      → output ≡ opened-picture grid a t picture
   unfolding opened-picture
   pass-opens wide t output entries found =
       pass-opened
-      (w * h)
-      (edge-neighbours w)
-      (edge-symmetric w)
-      (attribute w (w * h) a)
-      (attribute-some w (w * h) a)
+      (pixels grid)
+      (adjacent grid)
+      (adjacent-symmetric grid)
+      (attribute grid a)
+      (attribute-some grid a)
       picture
-      (attribute-increasing w (w * h) a)
-      (grid-whole w wide (w * h) (grey picture))
+      (attribute-increasing grid a)
+      (grid-whole grid wide (grey picture))
       t
       output
       entries
       found
 
--- the verdict on an opening call
-pub record Judged (w h a t : ℕ) (picture lent output : List ℕ) (verdict : Verdict) : Type 0 where
-  pub same : verdict ≡ opening-judged w h a t picture lent output
-
--- the verdict from what the tests of the threshold and the output answer
-pub judged-by : (w h a t : ℕ) (picture lent output : List ℕ) (thresholds outputs : Bool) (verdict : Verdict)
-    → verdict ≡ call-verdict w h a (length picture) thresholds (length lent) outputs
-    → thresholds ≡ threshold-good t → outputs ≡ eqb (length output) (w * h)
-    → Judged w h a t picture lent output verdict
-judged-by w h a t picture lent output thresholds outputs verdict judged good entries =
-    record { same = judged ∙ rw (good, entries) }
-
 -- what holds of the answer, the workspace and the output after a call
-abbrev pub Called : ℕ → ℕ → ℕ → ℕ → List ℕ → List ℕ → List ℕ → Verdict → List ℕ → List ℕ → Type 0
-Called w h a t picture lent output answer workspace written =
-    (verdict-numbers answer ≡ verdict-numbers (opening-judged w h a t picture lent output))
-    × ((workspace ≡ call-workspace (opening-judged w h a t picture lent output) w h a picture lent)
-    × (written ≡ opening-output w h a t picture lent output))
+abbrev pub Called : Open-call → Verdict → List ℕ → List ℕ → Type 0
+Called call answer workspace output =
+    (verdict-numbers answer ≡ verdict-numbers (open-verdict call))
+    × ((workspace ≡ open-workspace call)
+    × (output ≡ open-output call))
 
-module _ {w h a t : ℕ} {picture lent output : List ℕ} {verdict : Verdict} (judged : Judged w h a t picture lent output verdict) where
-  pub called-refused : {cause : Cause} → verdict ≡ Refused cause → Called w h a t picture lent output (Refused cause) lent output
-  unfolding call-workspace opening-output
+-- a call by the verdict that was found on it
+module _ (call : Open-call) {verdict : Verdict} (judged : verdict ≡ open-verdict call) where
+  pub called-refused : {cause : Cause} → verdict ≡ Refused cause → Called call (Refused cause) (call .workspace) (call .output)
+  unfolding open-workspace open-output
   called-refused {cause} refused =
-      let is : opening-judged w h a t picture lent output ≡ Refused cause = sym (judged .same) ∙ refused in
+      let is : open-verdict call ≡ Refused cause = sym judged ∙ refused in
       rw is (refl, (refl, refl))
 
   module _ (accepted : verdict ≡ Accepted) where
-    pub tests : Passed w h a (length picture) (threshold-good t) (length lent) (eqb (length output) (w * h))
-    tests =
-        passed w h a (length picture) (threshold-good t) (length lent) (eqb (length output) (w * h)) (sym (judged .same) ∙ accepted)
+    passed : Open-passed call
+    passed = open-passed call (sym judged ∙ accepted)
 
-    same-size : length output ≡ length picture
-    same-size = eqb-true (length output) (w * h) (tests .outputs-good) ∙ sym (tests .a-byte-each)
+    pub common : Passed (call .grid) (length (call .picture)) (length (call .workspace))
+    common = passed .common
 
-    pub pass-asks : (workspace : List ℕ) → workspace ≡ record-of w h a picture
-        → Climbable picture workspace (length picture) × (length output ≡ length picture)
+    same-size : length (call .output) ≡ length (call .picture)
+    same-size = passed .output ∙ sym (common .a-byte-each)
+
+    pub pass-asks : (workspace : List ℕ) → workspace ≡ record-of (call .grid) (call .attribute) (call .picture)
+        → Climbable (call .picture) workspace (length (call .picture)) × (length (call .output) ≡ length (call .picture))
     pass-asks workspace built =
-        (rw (built, tests .a-byte-each) (record-of-climbable w h a picture (tests .a-byte-each)), same-size)
+        (rw (built, common .a-byte-each) (record-of-climbable (call .grid) (call .attribute) (call .picture) (common .a-byte-each)), same-size)
 
-    pub called-done : (workspace written : List ℕ) → workspace ≡ record-of w h a picture → length written ≡ length output
-        → Opened-before picture workspace (length picture) t (length picture) written
-        → Called w h a t picture lent output Accepted workspace written
-    unfolding call-workspace opening-output
+    pub called-done : (workspace written : List ℕ) → workspace ≡ record-of (call .grid) (call .attribute) (call .picture)
+        → length written ≡ length (call .output)
+        → Opened-before (call .picture) workspace (length (call .picture)) (call .threshold) (length (call .picture)) written
+        → Called call Accepted workspace written
+    unfolding open-workspace open-output
     called-done workspace written built same found =
-        let is : opening-judged w h a t picture lent output ≡ Accepted = sym (judged .same) ∙ accepted in
-        let opens : written ≡ opened-picture w h a t picture =
+        let is : open-verdict call ≡ Accepted = sym judged ∙ accepted in
+        let opens : written ≡ opened-picture (call .grid) (call .attribute) (call .threshold) (call .picture) =
         pass-opens
-        w
-        h
-        a
-        picture
-        (bounded w h (tests .sides) .wide)
-        t
+        (call .grid)
+        (call .attribute)
+        (call .picture)
+        (bounded (call .grid .width) (call .grid .height) (common .sides) .wide)
+        (call .threshold)
         written
-        (same ∙ same-size ∙ tests .a-byte-each)
-        (rw (built, tests .a-byte-each) at found) in
+        (same ∙ same-size ∙ common .a-byte-each)
+        (rw (built, common .a-byte-each) at found) in
         rw is (refl, (built, opens))

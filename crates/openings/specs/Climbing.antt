@@ -57,6 +57,10 @@ pub record Opened-to (picture words : List ℕ) (n t p v : ℕ) : Type 0 where
 abbrev pub Opened-before : List ℕ → List ℕ → ℕ → ℕ → ℕ → List ℕ → Type 0
 Opened-before picture words n t k output = (p : ℕ) → p < k → Opened-to picture words n t p (grey output p)
 
+-- every position has it
+abbrev pub Opened : List ℕ → List ℕ → ℕ → List ℕ → Type 0
+Opened picture words t output = Opened-before picture words (length picture) t (length picture) output
+
 -- the pass over the positions has come to k
 pub record Pass (picture words : List ℕ) (n t k : ℕ) (output : List ℕ) : Type 0 where
   pub climbable : Climbable picture words n

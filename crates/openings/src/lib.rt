@@ -4,8 +4,10 @@ ghost use Prim.Native.Nat.{_<_};
 ghost use mathlib.Core.Path.{_≡_};
 ghost use lib.ListN.{length};
 ghost use Rattle.calls.specs.Judging.{verdict-numbers};
-ghost use Rattle.calls.specs.Calls.{grey, opening-judged, call-workspace, opening-output};
-ghost use Rattle.openings.specs.Climbing.{Climbable, From, Kept, Opened-to, Opened-before, Pass};
+ghost use Rattle.calls.specs.Calls.{grey, open-call, open-verdict, open-workspace, open-output};
+ghost use Rattle.openings.specs.Climbing.{Climbable, From, Kept, Opened-to, Opened, Pass};
+use causes::Cause;
+use grid::Grid;
 
 // The grey of the nearest kept ancestor of the node of `r`, itself among them: recursion to the parent, whose level is below. So there are
 // no more steps than the grey of `r` counts.
@@ -40,7 +42,7 @@ fn new_grey(picture: &[u8], words: &[u32], n: usize, p: usize, threshold: u32, o
 fn open_record(picture: &[u8], words: &[u32], threshold: u32, output: &mut [u8])
     requires { ⌜ Climbable (now picture) (now words) (length (now picture)) ⌝ }
     requires { ⌜ length (now output) ≡ length (now picture) ⌝ }
-    ensures { λ r. ⌜ Opened-before (now (picture .entry)) (now (words .entry)) (length (now (picture .entry))) threshold (length (now (picture .entry))) (now (output .exit)) ⌝ }
+    ensures { λ r. ⌜ Opened (now (picture .entry)) (now (words .entry)) threshold (now (output .exit)) ⌝ }
 {
     let n = picture.len();
     let mut p = 0;
@@ -54,34 +56,34 @@ fn open_record(picture: &[u8], words: &[u32], threshold: u32, output: &mut [u8])
 // Opens a picture at a threshold: the output is the opened picture, and the workspace the tree record of the picture given.
 pub fn open(
     picture: &[u8],
-    width: u32,
-    height: u32,
+    grid: Grid,
     attribute: u32,
     threshold: u32,
     workspace: &mut [u32],
     output: &mut [u8],
 ) -> calls::Verdict
-    ensures answer { λ r. ⌜ verdict-numbers r ≡ verdict-numbers (opening-judged width height attribute threshold (now (picture .entry)) (now (workspace .entry)) (now (output .entry))) ⌝ }
-    ensures workspace { λ _. ⌜ now (workspace .exit) ≡ call-workspace (opening-judged width height attribute threshold (now (picture .entry)) (now (workspace .entry)) (now (output .entry))) width height attribute (now (picture .entry)) (now (workspace .entry)) ⌝ }
-    ensures output { λ _. ⌜ now (output .exit) ≡ opening-output width height attribute threshold (now (picture .entry)) (now (workspace .entry)) (now (output .entry)) ⌝ }
+    ensures answer { λ r. ⌜ verdict-numbers r ≡ verdict-numbers (open-verdict (open-call picture grid attribute threshold workspace output)) ⌝ }
+    ensures workspace { λ _. ⌜ now (workspace .exit) ≡ open-workspace (open-call picture grid attribute threshold workspace output) ⌝ }
+    ensures output { λ _. ⌜ now (output .exit) ≡ open-output (open-call picture grid attribute threshold workspace output) ⌝ }
 {
-    let thresholds = calls::threshold_good(threshold);
-    let outputs = calls::entry_each(width, height, output.len());
-    let verdict = calls::judge(
-        width,
-        height,
-        attribute,
-        picture.len(),
-        thresholds,
-        workspace.len(),
-        outputs,
+    let named = calls::judge_picture(grid, picture.len(), attribute);
+    let by_threshold = calls::also(named, calls::threshold_good(threshold), Cause::Steps);
+    let by_words = calls::also(
+        by_threshold,
+        calls::words_each(grid, workspace.len()),
+        Cause::Workspace,
+    );
+    let verdict = calls::also(
+        by_words,
+        calls::entry_each(grid, output.len()),
+        Cause::Output,
     );
     match verdict {
         calls::Verdict::Refused(cause) => {
             return calls::Verdict::Refused(cause);
         }
         calls::Verdict::Accepted => {
-            max_tree::build_record(picture, width, height, attribute, workspace);
+            max_tree::build_record(picture, grid, attribute, workspace);
             open_record(picture, workspace, threshold, output);
             return calls::Verdict::Accepted;
         }

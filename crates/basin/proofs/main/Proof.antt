@@ -1,6 +1,6 @@
 -- `basin::main` is safe and ends: no more bytes are loaded than there is room for. Assumes nothing but the contracts of the C library.
 use Rattle.basin.proofs.Lending.{taken, loaded-room}
-use Rattle.basin.proofs.Jobs.{both-loaded}
+use Rattle.basin_judging.proofs.Jobs.{both-loaded}
 use borrow.Author.Needs.{needs}
 use Rattle.basin.proofs.main.Statement.{statement}
 use Rattle.basin.proofs.main.Tie as tie

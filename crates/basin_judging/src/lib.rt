@@ -1,9 +1,20 @@
-// What the program does with its two files: its causes for refusal, in its order. Nothing is printed here.
+// What the program does with its two files: its causes for refusal, in its order. Nothing is read or printed here.
 ghost use mathlib.Core.Path.{_≡_};
 ghost use Rattle.steps.specs.Answer.{parse-answer, steps-after};
-ghost use Rattle.basin.specs.Judging.{both-read, lengths-numbers, sized-by, job-of, job-numbers, job-steps};
-use crate::files::Loaded;
+ghost use Rattle.basin_judging.specs.Judging.{both-read, lengths-numbers, sized-by, job-of, job-numbers, job-steps};
 use causes::Cause;
+use grid::Grid;
+
+// The bounds of specs/Judging.antt.
+pub const LONGEST_FILE: usize = 4096;
+
+pub const MOST_SIZED: usize = 2048;
+
+// How many bytes a file has, up to the length of the buffer that it was read into, or that it was not opened or read.
+pub enum Loaded {
+    Bytes(usize),
+    Failed,
+}
 
 // How many bytes each file has.
 pub enum Lengths {
@@ -14,8 +25,7 @@ pub enum Lengths {
 // What is to be sized, and by how many steps.
 pub enum Job {
     Size {
-        width: u32,
-        height: u32,
+        grid: Grid,
         attribute: u32,
         count: usize,
     },
@@ -32,10 +42,10 @@ pub fn both(picture: Loaded, list: Loaded) -> Lengths
     let Loaded::Bytes(s) = list else {
         return Lengths::Refused(Cause::NotRead);
     };
-    if 4096 < p {
+    if LONGEST_FILE < p {
         return Lengths::Refused(Cause::TooLarge);
     }
-    if 4096 < s {
+    if LONGEST_FILE < s {
         return Lengths::Refused(Cause::TooLarge);
     }
     Lengths::Both {
@@ -44,16 +54,15 @@ pub fn both(picture: Loaded, list: Loaded) -> Lengths
     }
 }
 
-// The steps file, for a picture of the sides named.
-fn by_steps(width: u32, height: u32, list: &[u8], thresholds: &mut [u32; 256]) -> Job
-    ensures { λ r. ⌜ r ≡ sized-by width height (parse-answer (now (list .entry))) ⌝ }
+// The steps file, for a picture with the grid named.
+fn by_steps(grid: Grid, list: &[u8], thresholds: &mut [u32; 256]) -> Job
+    ensures { λ r. ⌜ r ≡ sized-by grid (parse-answer (now (list .entry))) ⌝ }
     ensures { λ _. ⌜ now (thresholds .exit) ≡ steps-after (now (list .entry)) (now (thresholds .entry)) ⌝ }
 {
     match steps::parse(list, thresholds) {
         steps::Parsed::Steps { attribute, count } => {
             return Job::Size {
-                width: width,
-                height: height,
+                grid: grid,
                 attribute: attribute,
                 count: count,
             };
@@ -76,10 +85,11 @@ pub fn judge(file: &[u8], list: &[u8], thresholds: &mut [u32; 256]) -> Job
             maximum: _,
             start: _,
         } => {
-            if 2048 < (width as usize) * (height as usize) {
+            let grid = Grid { width, height };
+            if MOST_SIZED < grid::pixels(grid) {
                 return Job::Refused(Cause::TooLarge);
             }
-            return by_steps(width, height, list, thresholds);
+            return by_steps(grid, list, thresholds);
         }
         pgm::Found::Refused(cause) => {
             return Job::Refused(cause);

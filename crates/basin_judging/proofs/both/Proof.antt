@@ -1,8 +1,8 @@
--- `basin::judging::both` meets its contract. Assumes nothing.
-use Rattle.basin.proofs.Jobs.{first-failed, second-failed, first-long, second-long, both-fit}
+-- `basin_judging::both` meets its contract. Assumes nothing.
+use Rattle.basin_judging.proofs.Jobs.{first-failed, second-failed, first-long, second-long, both-fit}
 use borrow.Author.Needs.{needs}
-use Rattle.basin.proofs.judging.both.Statement.{statement}
-use Rattle.basin.proofs.judging.both.Tie as tie
+use Rattle.basin_judging.proofs.both.Statement.{statement}
+use Rattle.basin_judging.proofs.both.Tie as tie
 
 enum-known-picture : tie.Need-enum-known-picture
 enum-known-picture c = search needs

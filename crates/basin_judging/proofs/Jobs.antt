@@ -1,5 +1,5 @@
 -- The causes of the program, one way out after the other, and what an accepted job gives. Assumes nothing.
-use Prim.Native.Nat.{ℕ, _*_, _≤_, _<_}
+use Prim.Native.Nat.{ℕ, _≤_, _<_}
 use mathlib.Core.Bool.{Bool, true, false, cond}
 use mathlib.Core.List.{List}
 use mathlib.Core.Path.{_≡_, refl, sym, ap, _∙_}
@@ -7,6 +7,9 @@ use native.Mathlib.Omega.{arith}
 use lib.Dec.{ltb}
 use lib.ListN.{length}
 use borrow.Author.Tests.{ltb-false, lt-ltb, le-ltb}
+use Rattle.grid.specs.Pixels.{pixels, grid-of}
+use Rattle.grid.specs.declared.Grid.{Grid}
+use Rattle.grid.proofs.Grids.{same-sides}
 use Rattle.causes.specs.declared.Cause.{Cause}
 use Rattle.causes.proofs.Numbers.{number-determined}
 use Rattle.causes.specs.declared.Cause.the-variants.{TooLarge, NotRead}
@@ -18,13 +21,13 @@ use Rattle.steps.specs.Answer.{parse-answer, parsed-numbers, steps-after}
 use Rattle.steps.proofs.Laws.{parsed-determined}
 use Rattle.steps.specs.declared.Parsed.{Parsed}
 use Rattle.steps.specs.declared.Parsed.the-variants.{Steps, Refused as Not-parsed}
-use Rattle.basin.specs.declared.files.Loaded.{Loaded}
-use Rattle.basin.specs.declared.files.Loaded.the-variants.{Bytes, Failed}
-use Rattle.basin.specs.declared.judging.Lengths.{Lengths}
-use Rattle.basin.specs.declared.judging.Lengths.the-variants.{Both, Refused as Not-both}
-use Rattle.basin.specs.declared.judging.Job.{Job}
-use Rattle.basin.specs.declared.judging.Job.the-variants.{Size, Refused}
-use Rattle.basin.specs.Judging.{both-read, lengths-numbers, sized-by, judged-with, job-of, job-numbers, job-steps}
+use Rattle.basin_judging.specs.declared.Loaded.{Loaded}
+use Rattle.basin_judging.specs.declared.Loaded.the-variants.{Bytes, Failed}
+use Rattle.basin_judging.specs.declared.Lengths.{Lengths}
+use Rattle.basin_judging.specs.declared.Lengths.the-variants.{Both, Refused as Not-both}
+use Rattle.basin_judging.specs.declared.Job.{Job}
+use Rattle.basin_judging.specs.declared.Job.the-variants.{Size, Refused}
+use Rattle.basin_judging.specs.Judging.{longest-file, most-sized, both-read, lengths-numbers, sized-by, judged-with, job-of, job-numbers, job-steps}
 
 -- an answer's numbers determine it
 pub lengths-determined : (r s : Lengths) → lengths-numbers r ≡ lengths-numbers s → r ≡ s
@@ -34,9 +37,9 @@ lengths-determined (Not-both c) (Both k l) e = absurd (omega (arith, ap length e
 lengths-determined (Not-both c) (Not-both d) e = ap Not-both (number-determined c d (cc e))
 
 pub job-determined : (r s : Job) → job-numbers r ≡ job-numbers s → r ≡ s
-job-determined (Size w h a k) (Size u v b l) e = cc
-job-determined (Size w h a k) (Refused d) e = absurd (omega (arith, ap length e))
-job-determined (Refused c) (Size u v b l) e = absurd (omega (arith, ap length e))
+job-determined (Size f a k) (Size g b l) e = let grids : f ≡ g = same-sides f g (cc e) (cc e) in cc
+job-determined (Size f a k) (Refused d) e = absurd (omega (arith, ap length e))
+job-determined (Refused c) (Size g b l) e = absurd (omega (arith, ap length e))
 job-determined (Refused c) (Refused d) e = ap Refused (number-determined c d (cc e))
 
 -- what a call of the parser that answered p says of the file
@@ -52,21 +55,21 @@ module _ (a b : Loaded) (p : ℕ) (is : a ≡ Bytes p) where
   second-failed e = rw (is, e) refl
 
   module _ (s : ℕ) (list-is : b ≡ Bytes s) where
-    pub first-long : 4096 < p → lengths-numbers (Not-both TooLarge) ≡ lengths-numbers (both-read a b)
-    first-long l = rw (is, list-is, lt-ltb 4096 p l) refl
+    pub first-long : longest-file < p → lengths-numbers (Not-both TooLarge) ≡ lengths-numbers (both-read a b)
+    first-long l = rw (is, list-is, lt-ltb longest-file p l) refl
 
-    pub second-long : p ≤ 4096 → 4096 < s → lengths-numbers (Not-both TooLarge) ≡ lengths-numbers (both-read a b)
-    second-long k l = rw (is, list-is, le-ltb 4096 p k, lt-ltb 4096 s l) refl
+    pub second-long : p ≤ longest-file → longest-file < s → lengths-numbers (Not-both TooLarge) ≡ lengths-numbers (both-read a b)
+    second-long k l = rw (is, list-is, le-ltb longest-file p k, lt-ltb longest-file s l) refl
 
-    pub both-fit : p ≤ 4096 → s ≤ 4096 → lengths-numbers (Both p s) ≡ lengths-numbers (both-read a b)
-    both-fit k l = rw (is, list-is, le-ltb 4096 p k, le-ltb 4096 s l) refl
+    pub both-fit : p ≤ longest-file → s ≤ longest-file → lengths-numbers (Both p s) ≡ lengths-numbers (both-read a b)
+    both-fit k l = rw (is, list-is, le-ltb longest-file p k, le-ltb longest-file s l) refl
 
 -- the steps file
-pub by-list : (w h attribute count : ℕ) (parsed : Parsed) → parsed ≡ Steps attribute count → Size w h attribute count ≡ sized-by w h parsed
-by-list w h attribute count parsed e = rw e refl
+pub by-list : (grid : Grid) (attribute count : ℕ) (parsed : Parsed) → parsed ≡ Steps attribute count → Size grid attribute count ≡ sized-by grid parsed
+by-list grid attribute count parsed e = rw e refl
 
-pub by-cause : (w h : ℕ) (cause : Cause) (parsed : Parsed) → parsed ≡ Not-parsed cause → Refused cause ≡ sized-by w h parsed
-by-cause w h cause parsed e = rw e refl
+pub by-cause : (grid : Grid) (cause : Cause) (parsed : Parsed) → parsed ≡ Not-parsed cause → Refused cause ≡ sized-by grid parsed
+by-cause grid cause parsed e = rw e refl
 
 -- what is answered, and what the thresholds then are
 abbrev pub Judged : List ℕ → List ℕ → List ℕ → Job → List ℕ → Type 0
@@ -77,41 +80,41 @@ unfolding job-of job-steps
 unread file list lent cause e = rw e (refl, refl)
 
 module _ (file list lent : List ℕ) (w h maximum start : ℕ) (is : read-answer file ≡ Picture w h maximum start) where
-  pub too-large : 2048 < w * h → Judged file list lent (Refused TooLarge) lent
+  pub too-large : most-sized < pixels (grid-of w h) → Judged file list lent (Refused TooLarge) lent
   unfolding job-of job-steps
-  too-large l = rw (is, lt-ltb 2048 (w * h) l) (refl, refl)
+  too-large l = rw (is, lt-ltb most-sized (pixels (grid-of w h)) l) (refl, refl)
 
-  pub small-enough : w * h ≤ 2048 → (answer : Job) (after : List ℕ) → answer ≡ sized-by w h (parse-answer list) → after ≡ steps-after list lent → Judged file list lent answer after
+  pub small-enough : pixels (grid-of w h) ≤ most-sized → (answer : Job) (after : List ℕ) → answer ≡ sized-by (grid-of w h) (parse-answer list) → after ≡ steps-after list lent → Judged file list lent answer after
   unfolding job-of job-steps
-  small-enough l answer after e f = rw (is, le-ltb 2048 (w * h) l) (ap job-numbers e, f)
+  small-enough l answer after e f = rw (is, le-ltb most-sized (pixels (grid-of w h)) l) (ap job-numbers e, f)
 
 -- what is to be sized: a picture of at most 2,048 pixels, by a steps file that is accepted
 pub record Sizing (file list lent : List ℕ) (attribute count : ℕ) : Type 0 where
-  pub few : length (raster-of file) ≤ 2048
+  pub few : length (raster-of file) ≤ most-sized
   pub parsed : parse-answer list ≡ Steps attribute count
   pub stored : job-steps file list lent ≡ steps-after list lent
 
-steps-of : (w h width height attribute count : ℕ) (parsed : Parsed) → sized-by w h parsed ≡ Size width height attribute count → parsed ≡ Steps attribute count
-steps-of w h width height attribute count (Steps a c) e = let f : a ≡ attribute = cc in let g : c ≡ count = cc in rw (f, g) refl
-steps-of w h width height attribute count (Not-parsed cause) e = let z : _≡_ {A = ℕ} 0 1 = cc in absurd (omega arith)
+steps-of : (g grid : Grid) (attribute count : ℕ) (parsed : Parsed) → sized-by g parsed ≡ Size grid attribute count → parsed ≡ Steps attribute count
+steps-of g grid attribute count (Steps a c) e = let f : a ≡ attribute = cc in let h : c ≡ count = cc in rw (f, h) refl
+steps-of g grid attribute count (Not-parsed cause) e = let z : _≡_ {A = ℕ} 0 1 = cc in absurd (omega arith)
 
-module _ (file list lent : List ℕ) (width height attribute count : ℕ) where
-  within : (found : Found) → read-answer file ≡ found → judged-with found (parse-answer list) ≡ Size width height attribute count → Sizing file list lent attribute count
+module _ (file list lent : List ℕ) (grid : Grid) (attribute count : ℕ) where
+  within : (found : Found) → read-answer file ≡ found → judged-with found (parse-answer list) ≡ Size grid attribute count → Sizing file list lent attribute count
   unfolding job-steps
   within (Not-found cause) is e = let z : _≡_ {A = ℕ} 0 1 = cc in absurd (omega arith)
-  within (Picture w h maximum start) is e = go (ltb 2048 (w * h)) refl
+  within (Picture w h maximum start) is e = go (ltb most-sized (pixels (grid-of w h))) refl
     where
-      go : (large : Bool) → ltb 2048 (w * h) ≡ large → Sizing file list lent attribute count
-      go true l = let f : Refused TooLarge ≡ Size width height attribute count = sym (rw l refl) ∙ e in let z : _≡_ {A = ℕ} 0 1 = cc in absurd (omega arith)
+      go : (large : Bool) → ltb most-sized (pixels (grid-of w h)) ≡ large → Sizing file list lent attribute count
+      go true l = let f : Refused TooLarge ≡ Size grid attribute count = sym (rw l refl) ∙ e in let z : _≡_ {A = ℕ} 0 1 = cc in absurd (omega arith)
       go false l =
-          let f : sized-by w h (parse-answer list) ≡ Size width height attribute count = sym (rw l refl) ∙ e in
+          let f : sized-by (grid-of w h) (parse-answer list) ≡ Size grid attribute count = sym (rw l refl) ∙ e in
           record {
-            few = omega (arith, accepted-page file w h maximum start is .raster-length, ltb-false 2048 (w * h) l);
-            parsed = steps-of w h width height attribute count (parse-answer list) f;
+            few = omega (arith, accepted-page file w h maximum start is .raster-length, ltb-false most-sized (pixels (grid-of w h)) l);
+            parsed = steps-of (grid-of w h) grid attribute count (parse-answer list) f;
             stored = rw (is, l) refl;
           }
 
-  pub sizing : (r : Job) → job-numbers r ≡ job-numbers (job-of file list) → r ≡ Size width height attribute count → Sizing file list lent attribute count
+  pub sizing : (r : Job) → job-numbers r ≡ job-numbers (job-of file list) → r ≡ Size grid attribute count → Sizing file list lent attribute count
   unfolding job-of
   sizing r e is = within (read-answer file) refl (sym (job-determined r (job-of file list) e) ∙ is)
 
@@ -119,7 +122,7 @@ module _ (file list lent : List ℕ) (width height attribute count : ℕ) where
 both-of : (a b : Loaded) (p s : ℕ) → both-read a b ≡ Both p s → (a ≡ Bytes p) × (b ≡ Bytes s)
 both-of Failed b p s e = let z : _≡_ {A = ℕ} 0 1 = cc in absurd (omega arith)
 both-of (Bytes q) Failed p s e = let z : _≡_ {A = ℕ} 0 1 = cc in absurd (omega arith)
-both-of (Bytes q) (Bytes r) p s e = go (ltb 4096 q) (ltb 4096 r) e
+both-of (Bytes q) (Bytes r) p s e = go (ltb longest-file q) (ltb longest-file r) e
   where
     go : (t u : Bool) → cond t (Not-both TooLarge) (cond u (Not-both TooLarge) (Both q r)) ≡ Both p s → (Bytes q ≡ Bytes p) × (Bytes r ≡ Bytes s)
     go true u f = let z : _≡_ {A = ℕ} 0 1 = cc in absurd (omega arith)
