@@ -13,21 +13,22 @@ use borrow.Author.Tests.{le-leb, lt-leb, lt-ltb, le-ltb, eqb-true, eqb-false}
 use Rattle.sets.proofs.Tests.{and-false}
 use Rattle.causes.proofs.Laws.{both-true}
 use Rattle.steps.specs.Lines.{lines, step-line, step-lines, threshold, thresholds, StepLines}
+use Rattle.causes.specs.Bounds.{most-steps}
 use Rattle.calls.specs.Judging.{threshold-good, all-good, steps-good}
 use Rattle.opening.specs.Residue.{rising}
 use Rattle.steps.proofs.Splitting.{NextLine}
 
 -- whether thresholds after `count` others, the last of which is low, make a step list
 unfoldable pub rest-good : ℕ → ℕ → List ℕ → Bool
-rest-good low count ts = leb 1 (count + length ts) && leb (count + length ts) 256 && (rising low ts && all-good ts)
+rest-good low count ts = leb 1 (count + length ts) && leb (count + length ts) most-steps && (rising low ts && all-good ts)
 
 rest-good-all : (ts : List ℕ) → rest-good 0 0 ts ≡ steps-good ts
 unfolding rest-good steps-good
 rest-good-all ts = rw (zero-add (length ts))
 
-rest-good-none : (low count : ℕ) → count ≤ 256 → not (eqb count 0) ≡ rest-good low count []
+rest-good-none : (low count : ℕ) → count ≤ most-steps → not (eqb count 0) ≡ rest-good low count []
 unfolding rest-good rising all-good
-rest-good-none low count few = rw (add-zero count, le-leb count 256 few) (go (eqb count 0) refl)
+rest-good-none low count few = rw (add-zero count, le-leb count most-steps few) (go (eqb count 0) refl)
   where
     go : (t : Bool) → eqb count 0 ≡ t → not t ≡ (leb 1 count && true && true)
     go true e = let z : count ≡ 0 = eqb-true count 0 e in rw z
@@ -36,11 +37,11 @@ rest-good-none low count few = rw (add-zero count, le-leb count 256 few) (go (eq
         rw (le-leb 1 count some)
 
 module _ (low count t : ℕ) (ts : List ℕ) where
-  rest-good-full : count ≡ 256 → false ≡ rest-good low count (t ∷ ts)
+  rest-good-full : count ≡ most-steps → false ≡ rest-good low count (t ∷ ts)
   unfolding rest-good
   rest-good-full e =
-      let many : 256 < count + suc (length ts) = omega arith in
-      rw (lt-leb (count + suc (length ts)) 256 many, and-false)
+      let many : most-steps < count + suc (length ts) = omega arith in
+      rw (lt-leb (count + suc (length ts)) most-steps many, and-false)
 
   rest-good-falls : t ≤ low → false ≡ rest-good low count (t ∷ ts)
   unfolding rest-good rising
@@ -85,7 +86,7 @@ no-thresholds file at h = rw (drop-of-length-le file h)
 -- the steps before a position are good and rise, the last of them to low: what is left to judge are those after it
 pub record JudgedSoFar (file : List ℕ) (from at low count : ℕ) : Type 0 where
   pub steps : StepLines file at
-  pub few : count ≤ 256
+  pub few : count ≤ most-steps
   pub rest : rest-good low count (thresholds (lines (drop at file))) ≡ steps-good (thresholds (lines (drop from file)))
 
 pub judged-none : (file : List ℕ) (from : ℕ) → StepLines file from → JudgedSoFar file from from 0 0
@@ -100,7 +101,7 @@ module _ {file : List ℕ} {from at low count : ℕ} (so-far : JudgedSoFar file 
     rest-here : rest-good low count (t ∷ thresholds (lines (drop (end + 1) file))) ≡ steps-good (thresholds (lines (drop from file)))
     rest-here = rw is (rw (threshold-next next) at (so-far .rest))
 
-    pub judged-full : count ≡ 256 → false ≡ steps-good (thresholds (lines (drop from file)))
+    pub judged-full : count ≡ most-steps → false ≡ steps-good (thresholds (lines (drop from file)))
     judged-full e = rest-good-full low count t (thresholds (lines (drop (end + 1) file))) e ∙ rest-here
 
     pub judged-falls : t ≤ low → false ≡ steps-good (thresholds (lines (drop from file)))
@@ -110,7 +111,7 @@ module _ {file : List ℕ} {from at low count : ℕ} (so-far : JudgedSoFar file 
       pub judged-outside : threshold-good t ≡ false → false ≡ steps-good (thresholds (lines (drop from file)))
       judged-outside h = rest-good-outside low count t (thresholds (lines (drop (end + 1) file))) above h ∙ rest-here
 
-      pub judged-more : (count ≡ 256 → ⊥) → threshold-good t ≡ true → JudgedSoFar file from (end + 1) t (count + 1)
+      pub judged-more : (count ≡ most-steps → ⊥) → threshold-good t ≡ true → JudgedSoFar file from (end + 1) t (count + 1)
       judged-more n h =
           record {
             steps = steps-after-line next (so-far .steps);

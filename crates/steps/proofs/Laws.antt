@@ -17,6 +17,7 @@ use Rattle.causes.proofs.Refusing.{must-passed}
 use Rattle.causes.proofs.Numbers.{number-determined}
 use Rattle.steps.specs.Fields.{same, area, height, width, attribute-of}
 use Rattle.steps.specs.Lines.{lines, word-on, well-formed}
+use Rattle.causes.specs.Bounds.{most-steps}
 use Rattle.calls.specs.Judging.{steps-good}
 use Rattle.calls.proofs.Accepted.{step-list}
 use Rattle.steps.specs.Answer.{attribute-in, steps-in, parse-answer, parsed-numbers, steps-after}
@@ -52,7 +53,7 @@ pub record Accepted (file : List ℕ) (attribute count : ℕ) : Type 0 where
   pub attribute-within : attribute ≤ 3
   pub step-list : steps-good (steps-in file) ≡ true
   pub total : count ≡ length (steps-in file)
-  pub few-steps : count ≤ 256
+  pub few-steps : count ≤ most-steps
 
 pub accepted-file : (file : List ℕ) (attribute count : ℕ) → parse-answer file ≡ Steps attribute count → Accepted file attribute count
 unfolding parse-answer attribute-in
@@ -76,7 +77,7 @@ accepted-file file attribute count e =
     }
 
 -- the first `count` of 256 lent entries are the listed thresholds, the others as they were
-pub accepted-steps : (file lent : List ℕ) (attribute count : ℕ) → length lent ≡ 256 → parse-answer file ≡ Steps attribute count → steps-after file lent ≡ steps-in file ++ drop count lent
+pub accepted-steps : (file lent : List ℕ) (attribute count : ℕ) → length lent ≡ most-steps → parse-answer file ≡ Steps attribute count → steps-after file lent ≡ steps-in file ++ drop count lent
 unfolding steps-after
 accepted-steps file lent attribute count size e =
     let a = accepted-file file attribute count e in

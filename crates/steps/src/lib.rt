@@ -5,6 +5,7 @@ ghost use Prim.Native.Nat.{_≤_};
 ghost use lib.ListN.{length, drop};
 ghost use lib.Seq.{sets};
 ghost use Rattle.steps.specs.Lines.{lines, thresholds, StepLines};
+ghost use Rattle.causes.specs.Bounds.{most-steps};
 ghost use Rattle.calls.specs.Judging.{steps-good};
 ghost use Rattle.steps.specs.Answer.{parse-answer, parsed-numbers, steps-after};
 
@@ -30,7 +31,7 @@ fn good_steps(file: &[u8], from: usize) -> bool
     while at < file.len() {
         let end = lines::line_end(file, at);
         let t = lines::threshold(&file[at..end]);
-        if count == 256 {
+        if count == causes::MOST_STEPS {
             return false;
         }
         if t <= low {
@@ -48,8 +49,9 @@ fn good_steps(file: &[u8], from: usize) -> bool
 
 // Stores the numbers on the step lines from `from` on, and answers how many there are.
 fn put_steps(file: &[u8], from: usize, steps: &mut [u32; 256]) -> usize
-    requires { ⌜ StepLines (now file) from × (length (thresholds (lines (drop from (now file)))) ≤ 256) ⌝ }
-    ensures { λ r. ⌜ (r ≡ length (thresholds (lines (drop from (now (file .entry)))))) × (now (steps .exit) ≡ sets (now (steps .entry)) 0 (thresholds (lines (drop from (now (file .entry)))))) ⌝ }
+    requires { ⌜ StepLines (now file) from × (length (thresholds (lines (drop from (now file)))) ≤ most-steps) ⌝ }
+    ensures count { λ r. ⌜ r ≡ length (thresholds (lines (drop from (now (file .entry))))) ⌝ }
+    ensures steps { λ _. ⌜ now (steps .exit) ≡ sets (now (steps .entry)) 0 (thresholds (lines (drop from (now (file .entry))))) ⌝ }
 {
     let mut at = from;
     let mut count: usize = 0;

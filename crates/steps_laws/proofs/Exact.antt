@@ -18,7 +18,8 @@ use Rattle.steps.specs.declared.Parsed.the-variants.{Steps}
 use Rattle.steps.proofs.Laws.{accepted-file}
 use Rattle.steps_laws.specs.Spelled.{name-of, spelled-steps, spelled-file, Spells, Gives}
 use Rattle.steps_laws.proofs.Digits.{number-written}
-use Rattle.steps_laws.proofs.Spelling.{ends-cons, each-good, threshold-fits, spelled-gives}
+use Rattle.calls.proofs.Accepted.{step-list}
+use Rattle.steps_laws.proofs.Spelling.{ends-cons, threshold-fits, spelled-gives}
 
 -- the lines, each with the byte 10 that ends it
 ended-lines : List (List ℕ) → List ℕ
@@ -118,7 +119,7 @@ accepted-spells file attribute count e =
     (record {
       known = named-by (word-on (lines file)) some .known;
       step-list = a .step-list;
-      bytes = sym (lines-spelled (lines file) (p .1) some (each-good (steps-in file) (a .step-list)) ∙ file-lines file (p .0));
+      bytes = sym (lines-spelled (lines file) (p .1) some (step-list (steps-in file) (a .step-list) .each-good) ∙ file-lines file (p .0));
     })
 
 -- a file is accepted with an attribute and steps exactly if it is, byte for byte, the file that spells them

@@ -13,6 +13,8 @@ use Rattle.causes.proofs.Laws.{both-true}
 use Rattle.pgm.specs.Write.{decimal}
 use Rattle.steps.specs.Fields.{all-between, field, starts-with, attribute-of}
 use Rattle.steps.specs.Lines.{ends-line, longer, lines, attribute-head, step-head, attribute-line, step-line, step-lines, shaped, well-formed, threshold, thresholds}
+use Rattle.causes.specs.Bounds.{top-threshold}
+use Rattle.calls.proofs.Accepted.{step-list}
 use Rattle.calls.specs.Judging.{attribute-good, threshold-good, all-good, steps-good}
 use Rattle.opening.specs.Residue.{rising}
 use Rattle.steps.specs.Answer.{attribute-in, steps-in, parse-answer}
@@ -41,22 +43,15 @@ one-line-between low high (b ∷ s) h e =
     let n : b ≡ 10 → ⊥ = λ (ten : b ≡ 10). omega arith in
     rw (ne-eqb b 10 n) (one-line-between low high s h (p .1))
 
--- each threshold of a step list is in range
-pub each-good : (steps : List ℕ) → steps-good steps ≡ true → all-good steps ≡ true
-unfolding steps-good
-each-good steps good =
-    let p = both-true (leb 1 (length steps) && leb (length steps) 256) (rising 0 steps && all-good steps) good in
-    both-true (rising 0 steps) (all-good steps) (p .1) .1
-
 -- the line that spells a step
 module _ (t : ℕ) (good : threshold-good t ≡ true) where
   some : 1 ≤ t
   unfolding threshold-good
-  some = leb-true 1 t (both-true (leb 1 t) (leb t 1048577) good .0)
+  some = leb-true 1 t (both-true (leb 1 t) (leb t top-threshold) good .0)
 
   pub threshold-fits : t < 10000000
   unfolding threshold-good
-  threshold-fits = omega (arith, leb-true t 1048577 (both-true (leb 1 t) (leb t 1048577) good .1))
+  threshold-fits = omega (arith, leb-true t top-threshold (both-true (leb 1 t) (leb t top-threshold) good .1))
 
   spelled-line : step-line (step-head ++ decimal 7 t) ≡ true
   unfolding step-line starts-with
@@ -133,7 +128,7 @@ module _ (attribute : ℕ) (steps : List ℕ) (known : attribute-good attribute 
   split = lines-split (attribute-head ++ name-of attribute) (spelled-steps steps) (name .unbroken)
 
   listed : Listed steps
-  listed = spelled-listed steps (each-good steps good)
+  listed = spelled-listed steps (step-list steps good .each-good)
 
   ended : ends-line (spelled-file attribute steps) ≡ true
   unfolding spelled-file

@@ -1,4 +1,4 @@
--- `basin::listing` is safe and ends. Assumes nothing.
+-- `basin::listing` is safe and ends. Invariant: p is no position beyond the last. Measure: the pixels from p on. Assumes nothing.
 use Prim.Native.Nat.{_-_, _≤_}
 use mathlib.Core.Path.{_≡_}
 use lib.ListN.{length}

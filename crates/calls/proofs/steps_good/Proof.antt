@@ -1,4 +1,5 @@
--- `calls::steps_good` meets its contract: at the loop's head the thresholds passed are good and rise to `low`. Assumes nothing.
+-- `calls::steps_good` meets its contract. Invariant: the thresholds before `i` are good and rise to `low`. Measure:
+-- the thresholds from `i` on. Assumes nothing.
 use Prim.Native.Nat.{_-_}
 use mathlib.Core.Path.{refl, sym, _∙_}
 use lib.ListN.{length}

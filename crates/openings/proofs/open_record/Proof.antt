@@ -1,4 +1,5 @@
--- `openings::open_record` meets its contract: at the loop's head the positions before `p` are opened. Assumes nothing.
+-- `openings::open_record` meets its contract. Invariant: the positions before `p` have their new grey. Measure:
+-- the positions from `p` on. Assumes nothing.
 use Prim.Native.Nat.{_-_}
 use Rattle.openings.specs.Climbing.{Pass}
 use Rattle.openings.proofs.Climbing.{pass-start, pass-more}

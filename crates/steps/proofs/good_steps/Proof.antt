@@ -1,4 +1,5 @@
--- `steps::good_steps` meets its contract: at the loop's head the steps before `at` are good, `count` of them, and rise to `low`. Assumes nothing.
+-- `steps::good_steps` meets its contract. Invariant: the steps on the lines before `at` are good, `count` of them, and rise to `low`. Measure:
+-- the bytes from `at` on. Assumes nothing.
 use borrow.Author.Tests.{not-true, not-false}
 use mathlib.Core.Path.{sym, _∙_}
 use Prim.Native.Nat.{_-_}

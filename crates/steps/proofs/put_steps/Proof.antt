@@ -1,4 +1,5 @@
--- `steps::put_steps` meets its contract: at the loop's head the thresholds before `at` are stored, `count` of them. Assumes nothing.
+-- `steps::put_steps` meets its contract. Invariant: the thresholds on the lines before `at` are stored, `count` of them. Measure:
+-- the bytes from `at` on. Assumes nothing.
 use Prim.Native.Nat.{_-_}
 use native.Mathlib.Omega.{arith}
 use lib.ListN.{length}

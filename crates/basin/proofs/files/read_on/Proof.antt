@@ -1,4 +1,5 @@
--- `basin::files::read_on` meets its contract: at the loop's head no more is read than there is room for. Assumes nothing.
+-- `basin::files::read_on` meets its contract. Invariant: no more is read than there is room for. Measure:
+-- the room that is left. Assumes nothing.
 use Prim.Native.Nat.{_-_, _≤_}
 use mathlib.Core.Path.{_≡_}
 use lib.ListN.{length}

@@ -1,4 +1,5 @@
--- `steps::fields::all_between` meets its contract: at the loop's head the bytes before `i` are within the bounds. Assumes nothing.
+-- `steps::fields::all_between` meets its contract. Invariant: the bytes before `i` are within the bounds. Measure:
+-- the bytes from `i` on. Assumes nothing.
 use Prim.Native.Nat.{_-_}
 use mathlib.Core.Path.{refl}
 use native.Mathlib.Omega.{arith}

@@ -1,4 +1,5 @@
--- `steps::fields::starts_with` meets its contract: at the loop's head the bytes before `i` are those of the head. Assumes nothing.
+-- `steps::fields::starts_with` meets its contract. Invariant: the bytes before `i` are those of the head. Measure:
+-- the bytes of the head from `i` on. Assumes nothing.
 use Prim.Native.Nat.{_-_}
 use mathlib.Core.Path.{refl}
 use native.Mathlib.Omega.{arith}

@@ -1,4 +1,5 @@
--- `steps::fields::value` meets its contract: at the loop's head `v` is the value of the digits before `i`. Assumes nothing.
+-- `steps::fields::value` meets its contract. Invariant: `v` is the value of the digits before `i`. Measure:
+-- the digits from `i` on. Assumes nothing.
 use Prim.Native.Nat.{_-_}
 use native.Mathlib.Omega.{arith}
 use lib.ListN.{length}

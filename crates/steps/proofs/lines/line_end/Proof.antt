@@ -1,4 +1,5 @@
--- `steps::lines::line_end` meets its contract: at the loop's head no byte before `at` ends the line. Assumes nothing.
+-- `steps::lines::line_end` meets its contract. Invariant: no byte before `at` ends the line. Measure:
+-- the bytes from `at` on. Assumes nothing.
 use Prim.Native.Nat.{_-_}
 use mathlib.Core.Path.{refl}
 use native.Mathlib.Omega.{arith}

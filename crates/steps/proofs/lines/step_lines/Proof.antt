@@ -1,4 +1,5 @@
--- `steps::lines::step_lines` meets its contract: at the loop's head the lines before `at` are step lines. Assumes nothing.
+-- `steps::lines::step_lines` meets its contract. Invariant: the lines before `at` are step lines. Measure:
+-- the bytes from `at` on. Assumes nothing.
 use Prim.Native.Nat.{_-_}
 use mathlib.Core.Path.{_∙_, sym, refl}
 use native.Mathlib.Omega.{arith}
