@@ -1,32 +1,29 @@
 /*
- * The library, the same flooding in C, and a union-find baseline, side by side on pictures of 1,048,576 pixels. All must agree;
- * times are printed and nothing is asked of them. A time is the processor time of one call, the least of several, on memory that
- * was touched before and is not cleared between calls.
+ * The library, the same flooding in C, and a union-find baseline, side by side on pictures of 1,048,576 pixels, and an earlier
+ * library beside them where the benchmark is built with one. All must agree; times are printed and nothing is asked of them. A time
+ * is the processor time of one call, the least of several, on memory that was touched before and is not cleared between calls.
  *
  *   bench [area|height|width] [RUNS]
  */
 #include "bench.h"
-#include "teldruf.h"
 
 #include <stdio.h>
 #include <stdlib.h>
 #include <string.h>
 #include <time.h>
 
-enum { SIDE = 1024, PIXELS = SIDE * SIDE, STEPS = 256, THRESHOLD = 40, WAYS = 3, PARTS = 3, CAMERA_SECONDS = 20 };
+enum { SIDE = 1024, PIXELS = SIDE * SIDE, CAMERA_SECONDS = 20 };
 
-static const char *const ways[WAYS] = {"library", "flooding in C", "union-find in C"};
+#ifdef BEFORE
+enum { LIBRARY, FLOOD, UNION, EARLIER, WAYS };
+#else
+enum { LIBRARY, FLOOD, UNION, WAYS };
+#endif
+
+static const char *const ways[] = {"library", "flooding in C", "union-find in C", "the earlier library"};
 static const char *const parts[PARTS] = {"build", "opening", "map"};
 
-/* What a call leaves. */
-typedef struct {
-    uint32_t *ws;
-    uint8_t *output, *residue;
-    uint16_t *index;
-    uint64_t nodes;
-} result_t;
-
-static uint32_t steps[STEPS];
+uint32_t steps[STEPS];
 
 static double milliseconds(void) {
     struct timespec t;
@@ -41,31 +38,31 @@ static void *lend(size_t bytes) {
     return memset(memory, 0xa5, bytes);
 }
 
-static uint64_t library_call(int part, const picture_t *p, uint32_t attribute, result_t *r) {
-    if (part == 0)
-        return teldruf_build(p->greys, PIXELS, p->width, p->height, attribute, r->ws, 6 * PIXELS);
-    if (part == 1)
-        return teldruf_open(p->greys, PIXELS, p->width, p->height, attribute, THRESHOLD, r->ws, 6 * PIXELS, r->output, PIXELS);
-    return teldruf_map(p->greys, PIXELS, p->width, p->height, attribute, steps, STEPS, r->ws, 6 * PIXELS, r->residue, PIXELS,
-                       r->index, PIXELS);
-}
-
 static uint64_t c_call(forest_fn *forest, int part, const picture_t *p, uint32_t attribute, result_t *r) {
-    if (part == 0)
+    if (part == BUILD)
         return c_build(forest, p, attribute, r->ws);
-    if (part == 1)
+    if (part == OPENING)
         c_open(forest, p, attribute, THRESHOLD, r->ws, r->output);
     else
         c_map(forest, p, attribute, steps, STEPS, r->ws, r->residue, r->index);
     return 0;
 }
 
+static uint64_t call(int way, int part, const picture_t *picture, uint32_t attribute, result_t *r) {
+    if (way == LIBRARY)
+        return library_call(part, picture, attribute, r);
+#ifdef BEFORE
+    if (way == EARLIER)
+        return before_call(part, picture, attribute, r);
+#endif
+    return c_call(way == FLOOD ? flood : join, part, picture, attribute, r);
+}
+
 static double timed(int way, int part, const picture_t *picture, uint32_t attribute, result_t *r) {
     double start = milliseconds();
-    uint64_t answer = way == 0 ? library_call(part, picture, attribute, r)
-                               : c_call(way == 1 ? flood : join, part, picture, attribute, r);
+    uint64_t answer = call(way, part, picture, attribute, r);
     double time = milliseconds() - start;
-    if (part == 0)
+    if (part == BUILD)
         r->nodes = answer;
     else if (answer != 0)
         r->nodes = UINT64_MAX;
@@ -81,7 +78,12 @@ static int agree(const result_t *a, const result_t *b) {
 static void print_rows(const char *name, double times[PARTS][WAYS]) {
     for (int part = 0; part < PARTS; part++) {
         double *t = times[part];
-        printf("%-13s %-8s %9.1f %9.1f %9.1f   %8.2f %8.2f\n", name, parts[part], t[0], t[1], t[2], t[0] / t[1], t[0] / t[2]);
+        printf("%-13s %-8s %9.1f %9.1f %9.1f   %8.2f %8.2f", name, parts[part], t[LIBRARY], t[FLOOD], t[UNION],
+               t[LIBRARY] / t[FLOOD], t[LIBRARY] / t[UNION]);
+#ifdef BEFORE
+        printf(" %9.1f %9.2f", t[EARLIER], t[LIBRARY] / t[EARLIER]);
+#endif
+        putchar('\n');
     }
 }
 
@@ -93,7 +95,8 @@ static double run_picture(const char *name, uint32_t attribute, int runs, result
         exit(2);
     for (int run = 0; run < runs; run++)
         for (int part = 0; part < PARTS; part++)
-            for (int way = 0; way < WAYS; way++) {
+            for (int k = 0; k < WAYS; k++) {
+                int way = (run + k) % WAYS;
                 double time = timed(way, part, &picture, attribute, &results[way]);
                 if (run == 0 || time < times[part][way])
                     times[part][way] = time;
@@ -105,7 +108,7 @@ static double run_picture(const char *name, uint32_t attribute, int runs, result
             printf("%s: library and %s differ\n", name, ways[way]);
             return -1;
         }
-    return times[2][0];
+    return times[MAP][LIBRARY];
 }
 
 int main(int count, char **words) {
@@ -123,7 +126,8 @@ int main(int count, char **words) {
         results[way] = (result_t){lend(6 * PIXELS * 4), lend(PIXELS), lend(PIXELS), lend(PIXELS * 2), 0};
     printf("%d pixels, %s, opening at %d, map with %d steps; ms, least of %d\n", PIXELS, attributes[attribute - 1], THRESHOLD,
            STEPS, runs);
-    printf("%-13s %-8s %9s %9s %9s   %8s %8s\n", "picture", "call", "library", "flooding", "union", "to flood", "to union");
+    printf("%-13s %-8s %9s %9s %9s   %8s %8s", "picture", "call", "library", "flooding", "union", "to flood", "to union");
+    puts(WAYS > 3 ? "   earlier  to that" : "");
     for (int k = 0; k < 5; k++) {
         double time = run_picture(names[k], attribute, runs < 1 ? 1 : runs, results);
         differing += time < 0;

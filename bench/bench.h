@@ -7,12 +7,28 @@
 #include <stdint.h>
 
 enum { AREA = 1, HEIGHT = 2, WIDTH = 3 };
+enum { BUILD, OPENING, MAP, PARTS };
+enum { STEPS = 256, THRESHOLD = 40 };
+
+extern uint32_t steps[STEPS];
 
 typedef struct {
     const char *name;
     uint32_t width, height;
     uint8_t *greys;
 } picture_t;
+
+/* What a call leaves. */
+typedef struct {
+    uint32_t *ws;
+    uint8_t *output, *residue;
+    uint16_t *index;
+    uint64_t nodes;
+} result_t;
+
+/* A call of the library, and of an earlier one where the benchmark is built with it. */
+uint64_t library_call(int part, const picture_t *picture, uint32_t attribute, result_t *result);
+uint64_t before_call(int part, const picture_t *picture, uint32_t attribute, result_t *result);
 
 /* Pictures of many kinds; the same for the same name and size. */
 int picture_make(picture_t *picture, const char *name, uint32_t width, uint32_t height);

@@ -1,0 +1,15 @@
+/*
+ * The library's calls as the benchmark makes them. This file is compiled once for the library, as library_call, and once more for
+ * an earlier one that it is compared with, as before_call, against that one's own header.
+ */
+#include "bench.h"
+#include "teldruf.h"
+
+uint64_t LIBRARY_CALL(int part, const picture_t *p, uint32_t attribute, result_t *r) {
+    size_t n = (size_t)p->width * p->height;
+    if (part == BUILD)
+        return teldruf_build(p->greys, n, p->width, p->height, attribute, r->ws, 6 * n);
+    if (part == OPENING)
+        return teldruf_open(p->greys, n, p->width, p->height, attribute, THRESHOLD, r->ws, 6 * n, r->output, n);
+    return teldruf_map(p->greys, n, p->width, p->height, attribute, steps, STEPS, r->ws, 6 * n, r->residue, n, r->index, n);
+}
