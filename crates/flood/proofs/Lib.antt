@@ -1,12 +1,2 @@
-pub mod Counts
-pub mod Meeting
-pub mod Finishing
-pub mod Closing
-pub mod Beginning
-pub mod Ending
-pub mod Tables
-pub mod Marks
-pub mod Parts
-pub mod Visits
 pub mod Steps
 pub mod Starts

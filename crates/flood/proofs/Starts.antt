@@ -10,14 +10,17 @@ use lib.Seq.{getD-set-same, getD-set-other}
 use Rattle.sets.proofs.Laws.{count-le}
 use Rattle.grid.specs.Neighbours.{adjacent}
 use Rattle.grid.specs.declared.Grid.{Grid}
-use Rattle.flood.specs.Flooding.{state-of, darker}
-use Rattle.flood.specs.Levels.{grey, total, level-counts, starts-of}
-use Rattle.flood.specs.Marks.{Marked}
-use Rattle.flood.specs.Calls.{Sized, Fitting, Placing, Ready, Floodable}
-use Rattle.flood.proofs.Counts.{by-cases, equal-or-not}
-use Rattle.flood.proofs.Meeting.{tail-lt}
-use Rattle.flood.proofs.Beginning.{Untouched, begins, first-sound, first-at}
-use Rattle.flood.proofs.Tables.{table-long, table-read, total-darker}
+use Rattle.sets.proofs.Tables.{table-long, table-read}
+use Rattle.levels.specs.Levels.{darker, grey, total, level-counts, starts-of}
+use Rattle.levels.specs.Workspace.{Sized}
+use Rattle.levels.proofs.Counts.{by-cases, equal-or-not}
+use Rattle.levels.proofs.Tables.{total-darker}
+use Rattle.flooding.proofs.Beginning.{Untouched, begins, first-sound, first-at}
+use Rattle.flooding.proofs.Meeting.{tail-lt}
+use Rattle.queues.specs.Marks.{Marked}
+use Rattle.queues.specs.Queues.{state-of, Fitting, Placing}
+use Rattle.visits.specs.Visits.{Ready}
+use Rattle.flood.specs.Calls.{Floodable}
 
 -- there is a first pixel
 pub some-pixel : {grid : Grid} {picture ws : List ℕ} → Floodable grid picture ws → 0 < length picture

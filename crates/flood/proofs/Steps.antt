@@ -12,45 +12,23 @@ use Rattle.grid.specs.Neighbours.{adjacent}
 use Rattle.grid.specs.declared.Grid.{Grid}
 use Rattle.grid.proofs.Attributes.{adjacent-symmetric}
 use Rattle.grid.proofs.Sides.{adjacent-before}
-use Rattle.flood.specs.Flooding.{state-of, Sound, Changed}
-use Rattle.flood.specs.Levels.{grey}
-use Rattle.flood.specs.Calls.{head-pixel, Ready, Standing, Visited, NoneOpen, Closable, ClosedBelow, spent, FloodedBy, Outcome, Stepped}
-use Rattle.flood.proofs.Counts.{by-cases}
-use Rattle.flood.proofs.Meeting.{tail-le}
-use Rattle.flood.proofs.Visits.{settle}
-use Rattle.flood.proofs.Finishing.{Empty, finished-sound, finished-at, finished-empty}
-use Rattle.flood.proofs.Closing.{closed-sound, closed-at}
-use Rattle.flood.proofs.Ending.{ends}
-use Rattle.flood.proofs.Tables.{stored, total-raised, total-le}
+use Rattle.levels.specs.Levels.{grey}
+use Rattle.levels.specs.Tables.{Changed}
+use Rattle.levels.proofs.Counts.{by-cases}
+use Rattle.levels.proofs.Tables.{stored, total-raised, total-le}
+use Rattle.flooding.specs.Flooding.{Sound}
+use Rattle.flooding.proofs.Closing.{closed-sound, closed-at}
+use Rattle.flooding.proofs.Ending.{ends}
+use Rattle.flooding.proofs.Finishing.{Empty, finished-sound, finished-at, finished-empty}
+use Rattle.flooding.proofs.Meeting.{tail-le}
+use Rattle.queues.specs.Queues.{state-of, NoneOpen, Closable, ClosedBelow}
+use Rattle.visits.specs.Visits.{head-pixel, Ready, Visited}
+use Rattle.visits.proofs.Visits.{settle}
+use Rattle.flood.specs.Calls.{spent, FloodedBy, Outcome, Stepped}
 
 -- the heads with that of level l moved on
 abbrev pub advanced : List ℕ → ℕ → List ℕ
 advanced heads l = set heads l (getD heads l 0 + 1)
-
--- a head is a place in part 3
-pub head-in :
-    {grid : Grid} {picture ws heads tails roots : List ℕ} {l : ℕ} → Ready grid picture ws heads tails roots l
-    → getD heads l 0 < length picture
-head-in {l = l} R =
-    let A = R .at in
-    omega (
-      arith,
-      A .busy l (A .level) (A .open-here),
-      tail-le (R .sound) l (A .level),
-    )
-
-pub start-standing :
-    {grid : Grid} {picture ws heads tails roots : List ℕ} {l : ℕ} → Ready grid picture ws heads tails roots l
-    → Standing grid picture ws heads tails roots l (head-pixel (length picture) ws heads l)
-start-standing R = record { ready = R; here = refl }
-
--- after a visit that stays, the same pixel is at the head
-pub still :
-    {grid : Grid} {picture ws heads tails roots ws' tails' roots' : List ℕ} {l r p : ℕ} {side : Positions}
-    → Visited grid picture ws heads tails roots ws' tails' roots' l r side → r ≡ l → Standing grid picture ws heads tails roots l p
-    → Standing grid picture ws' heads tails' roots' l p
-still U e S =
-    record { ready = settle U e .ready; here = U .same-head ∙ S .here }
 
 module _ {grid : Grid} {picture ws heads tails roots ws' tails' roots' : List ℕ} {l : ℕ} where
   -- the flood moves up

@@ -1,3 +1,4 @@
 pub mod Tests
 pub mod Laws
+pub mod Tables
 pub mod Gather
