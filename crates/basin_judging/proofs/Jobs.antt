@@ -13,9 +13,9 @@ use Rattle.grid.proofs.Grids.{same-sides}
 use Rattle.causes.specs.declared.Cause.{Cause}
 use Rattle.causes.proofs.Numbers.{number-determined}
 use Rattle.causes.specs.declared.Cause.the-variants.{TooLarge, NotRead}
-use Rattle.pgm.specs.Read.{read-answer, raster-of}
-use Rattle.pgm.specs.declared.Found.{Found}
-use Rattle.pgm.specs.declared.Found.the-variants.{Picture, Refused as Not-found}
+use Rattle.pgm_read.specs.Read.{read-answer, raster-of}
+use Rattle.pgm_read.specs.declared.Found.{Found}
+use Rattle.pgm_read.specs.declared.Found.the-variants.{Picture, Refused as Not-found}
 use Rattle.pgm.proofs.Shape.{accepted-page}
 use Rattle.steps.specs.Answer.{parse-answer, parsed-numbers, steps-after}
 use Rattle.steps.proofs.Laws.{parsed-determined}

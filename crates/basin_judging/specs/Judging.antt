@@ -7,9 +7,9 @@ use Rattle.grid.specs.Pixels.{pixels, grid-of}
 use Rattle.grid.specs.declared.Grid.{Grid}
 use Rattle.causes.specs.Causes.{number-of}
 use Rattle.causes.specs.declared.Cause.the-variants.{TooLarge, NotRead}
-use Rattle.pgm.specs.Read.{read-answer}
-use Rattle.pgm.specs.declared.Found.{Found}
-use Rattle.pgm.specs.declared.Found.the-variants.{Picture, Refused as Not-found}
+use Rattle.pgm_read.specs.Read.{read-answer}
+use Rattle.pgm_read.specs.declared.Found.{Found}
+use Rattle.pgm_read.specs.declared.Found.the-variants.{Picture, Refused as Not-found}
 use Rattle.steps.specs.Answer.{parse-answer, steps-after}
 use Rattle.steps.specs.declared.Parsed.{Parsed}
 use Rattle.steps.specs.declared.Parsed.the-variants.{Steps, Refused as Not-parsed}

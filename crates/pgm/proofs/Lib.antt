@@ -1,12 +1,3 @@
-pub mod Moves
-pub mod Scan
-pub mod Stores
-pub mod Decimals
-pub mod Judging
-pub mod Answers
-pub mod Files
 pub mod Parts
 pub mod Shape
 pub mod RoundTrip
-pub mod Readers
-pub mod Reading

@@ -12,16 +12,16 @@ use lib.Seq.{drop-drop, drop-append-seam, getD-drop}
 use borrow.Author.Tests.{eqb-true, eqb-false, leb-true, lt-ltb, le-leb, ne-eqb}
 use Rattle.causes.proofs.Laws.{both-true}
 use Rattle.causes.proofs.Lists.{from-here}
-use Rattle.pgm.specs.Bytes.{is-white, is-digit, move-of, by-move, white-move, digit-move, ends-comment}
-use Rattle.pgm.specs.Header.{gap-length, digit-count, decimal-value, white-at, finished-number, number-at, part-at}
+use Rattle.pgm_header.specs.Bytes.{is-white, is-digit, move-of, by-move, white-move, digit-move, ends-comment}
+use Rattle.pgm_header.specs.Header.{most-digits, gap-length, digit-count, decimal-value, white-at, finished-number, number-at, part-at}
 use Rattle.pgm.specs.Page.{GapRest, Gap, Number}
 use Rattle.pgm.specs.Page.Gap.{starts}
 use Rattle.pgm.specs.Page.GapRest.{done, white, comment, remark, newline}
-use Rattle.pgm.specs.declared.header.Move.{Move}
-use Rattle.pgm.specs.declared.header.Move.the-variants.{White, Digit, Comment, Foreign}
-use Rattle.pgm.specs.declared.header.Part.the-variants.{Value, Broken}
-use Rattle.pgm.proofs.Moves.{comment-35}
-use Rattle.pgm.proofs.Scan.{white-below, Stops, stops-at}
+use Rattle.pgm_header.specs.declared.Move.{Move}
+use Rattle.pgm_header.specs.declared.Move.the-variants.{White, Digit, Comment, Foreign}
+use Rattle.pgm_header.specs.declared.Part.the-variants.{Value, Broken}
+use Rattle.pgm_header.proofs.Moves.{comment-35}
+use Rattle.pgm_header.proofs.Scan.{white-below, Stops, stops-at}
 
 -- what a move says of the byte
 white-sorted : (w d c : Bool) → white-move (cond w White (cond d Digit (cond c Comment Foreign))) ≡ w
@@ -170,7 +170,7 @@ module _ (file : List ℕ) (at : ℕ) where
       let t : List ℕ = drop (at + g) file in
       let k : ℕ = digit-count t in
       let p = chosen (white-at file at) (number-at file (at + g)) Broken (broken-differs number after) e in
-      let n = chosen (leb k 7) (finished-number (decimal-value 0 t) k (at + g + k)) Broken (broken-differs number after) (p .1) in
+      let n = chosen (leb k most-digits) (finished-number (decimal-value 0 t) k (at + g + k)) Broken (broken-differs number after) (p .1) in
       let f = finished-found (decimal-value 0 t) k (at + g + k) (eqb k 0) number after refl (n .1) in
       let w = white-here (p .0) in
       let d = digit-front t in
@@ -183,7 +183,7 @@ module _ (file : List ℕ) (at : ℕ) where
         gap-right = gap-found s (getD file at 0) (drop (at + 1) file) (w .0) (w .1) (rw (drop-drop g at file) (f .0));
         number-right = record {
           some = omega (arith, d .whole);
-          few = omega (arith, d .whole, leb-true k 7 (n .0));
+          few = omega (arith, d .whole, leb-true k most-digits (n .0));
           all-digits = d .counted;
           value = d .valued 0 ∙ f .1;
         };
@@ -221,7 +221,7 @@ module _ (number : ℕ) (digits rest : List ℕ) (n : Number digits number) (sto
   unfolding number-at
   number-read file at e =
       let value : decimal-value 0 (digits ++ rest) ≡ number = digits-then digits rest (n .all-digits) .valued 0 ∙ stop .kept (decimal-value 0 digits) ∙ n .value in
-      simp (e, count-read, value, le-leb (length digits) 7 (n .few), ne-eqb (length digits) 0 (omega (arith, n .some)))
+      simp (e, count-read, value, le-leb (length digits) most-digits (n .few), ne-eqb (length digits) 0 (omega (arith, n .some)))
 
   gap-read : {inside : Bool} {g : List ℕ} → GapRest inside g → gap-length inside (g ++ (digits ++ rest)) ≡ length g
   gap-read {inside} {g} r =

@@ -10,16 +10,16 @@ use lib.ListN.{length, getD, drop, length-drop}
 use lib.Seq.{take-all}
 use borrow.Author.Tests.{le-leb, leb-true, eq-eqb, eqb-true}
 use Rattle.causes.proofs.Laws.{both-true, bounded, some-pixel}
-use Rattle.pgm.specs.Header.{sign, starts-with-sign, white-at, part-at, last-white-at, maximum-at, height-at, header-at}
-use Rattle.pgm.specs.Read.{judged, read-answer, raster-of}
+use Rattle.pgm_header.specs.Header.{sign, starts-with-sign, white-at, part-at, last-white-at, maximum-at, height-at, header-at}
+use Rattle.pgm_read.specs.Read.{judged, read-answer, raster-of}
 use Rattle.pgm.specs.Page.{Page}
-use Rattle.pgm.specs.declared.header.Part.{Part}
-use Rattle.pgm.specs.declared.header.Part.the-variants.{Value, Broken}
-use Rattle.pgm.specs.declared.header.Header.{Header}
-use Rattle.pgm.specs.declared.header.Header.the-variants.{Read, Broken as BrokenHeader}
-use Rattle.pgm.specs.declared.Found.the-variants.{Picture}
-use Rattle.pgm.proofs.Scan.{whole-header}
-use Rattle.pgm.proofs.Judging.{Accepted, accepted, judged-picture, read-signed}
+use Rattle.pgm_header.specs.declared.Part.{Part}
+use Rattle.pgm_header.specs.declared.Part.the-variants.{Value, Broken}
+use Rattle.pgm_header.specs.declared.Header.{Header}
+use Rattle.pgm_header.specs.declared.Header.the-variants.{Read, Broken as BrokenHeader}
+use Rattle.pgm_read.specs.declared.Found.the-variants.{Picture}
+use Rattle.pgm_header.proofs.Scan.{whole-header}
+use Rattle.pgm_read.proofs.Judging.{Accepted, accepted, judged-picture, read-signed}
 use Rattle.pgm.proofs.Parts.{chosen, part-stands, white-here, drop-past, white-stands, part-read, white-stops, gap-stops}
 
 -- a whole header has three numbers and a white byte after them

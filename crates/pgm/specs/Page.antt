@@ -5,10 +5,9 @@ use mathlib.Core.Bool.{Bool, true, false}
 use mathlib.Core.List.{List, [], _∷_, _++_}
 use lib.ListN.{length}
 use Rattle.causes.specs.Sides.{sides-fit}
-use Rattle.pgm.specs.Bytes.{is-white, ends-comment}
-use Rattle.pgm.specs.Header.{sign, digit-count, decimal-value}
-use Rattle.pgm.specs.Samples.{all-at-most}
-use Rattle.pgm.specs.Read.{maximum-fits}
+use Rattle.pgm_values.specs.Values.{maximum-fits, all-at-most}
+use Rattle.pgm_header.specs.Bytes.{is-white, ends-comment}
+use Rattle.pgm_header.specs.Header.{sign, most-digits, digit-count, decimal-value}
 
 -- "goes on over white bytes and comments; a comment runs from # through the next 10 or 13."
 -- The rest of a gap. The Bool says whether it stands inside a comment; a gap ends outside.
@@ -26,7 +25,7 @@ pub data Gap : List ℕ → Type 0 where
 -- "A number has 1 to 7 digits, leading zeros allowed." These bytes are nothing but digits, and their decimal value is the number.
 pub record Number (digits : List ℕ) (number : ℕ) : Type 0 where
   pub some : 1 ≤ length digits
-  pub few : length digits ≤ 7
+  pub few : length digits ≤ most-digits
   pub all-digits : digit-count digits ≡ length digits
   pub value : decimal-value 0 digits ≡ number
 

@@ -12,11 +12,11 @@ use lib.ListN.{length, getD}
 use borrow.Author.Tests.{leb-true, le-leb, ne-eqb, eqb-false, not-true}
 use Rattle.sets.proofs.Tests.{or-right, le-or-lt}
 use Rattle.causes.proofs.Laws.{both-true}
-use Rattle.pgm.specs.Bytes.{is-white, is-digit, move-of, digit-move}
-use Rattle.pgm.specs.Header.{digit-count, decimal-value}
-use Rattle.pgm.specs.Write.{decimal}
-use Rattle.pgm.specs.declared.header.Move.the-variants.{White, Digit, Comment, Foreign}
-use Rattle.pgm.proofs.Decimals.{decimal-short, decimal-long, count-decimal, value-decimal, length-decimal}
+use Rattle.pgm_header.specs.Bytes.{is-white, is-digit, move-of, digit-move}
+use Rattle.pgm_header.specs.Header.{digit-count, decimal-value}
+use Rattle.pgm_write.specs.Write.{decimal}
+use Rattle.pgm_header.specs.declared.Move.the-variants.{White, Digit, Comment, Foreign}
+use Rattle.pgm_write.proofs.Decimals.{decimal-short, decimal-long, count-decimal, value-decimal, length-decimal}
 use Rattle.steps.specs.Fields.{all-between, field, no-leading-zero, is-number, value-after}
 
 -- the bytes that a header's reader takes for digits are those from 48 to 57

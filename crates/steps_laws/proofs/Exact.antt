@@ -9,7 +9,7 @@ use lib.Dec.{eqb}
 use lib.ListN.{length, drop, drop-of-length-le}
 use borrow.Author.Tests.{eqb-true}
 use Rattle.causes.proofs.Laws.{both-true}
-use Rattle.pgm.specs.Write.{decimal}
+use Rattle.pgm_write.specs.Write.{decimal}
 use Rattle.calls.specs.Judging.{attribute-good, threshold-good, all-good}
 use Rattle.steps.specs.Fields.{is-word, is-number, starts-with, same, area, height, width, attribute-of}
 use Rattle.steps.specs.Lines.{ends-line, longer, lines, attribute-head, step-head, attribute-line, step-line, step-lines, shaped, well-formed, threshold, thresholds, word-on, listed}

@@ -10,7 +10,7 @@ use lib.ListN.{length}
 use borrow.Author.Tests.{leb-true, eqb-true, ne-eqb, not-true}
 use Rattle.sets.proofs.Tests.{or-cases}
 use Rattle.causes.proofs.Laws.{both-true}
-use Rattle.pgm.specs.Write.{decimal}
+use Rattle.pgm_write.specs.Write.{decimal}
 use Rattle.steps.specs.Fields.{all-between, field, starts-with, attribute-of}
 use Rattle.steps.specs.Lines.{ends-line, longer, lines, attribute-head, step-head, attribute-line, step-line, step-lines, shaped, well-formed, threshold, thresholds}
 use Rattle.causes.specs.Bounds.{top-threshold}

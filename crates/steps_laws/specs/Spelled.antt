@@ -5,7 +5,7 @@ use mathlib.Core.Bool.{true, cond}
 use mathlib.Core.List.{List, [], _∷_, _++_}
 use lib.Dec.{eqb}
 use lib.ListN.{length}
-use Rattle.pgm.specs.Write.{decimal}
+use Rattle.pgm_write.specs.Write.{decimal}
 use Rattle.calls.specs.Judging.{attribute-good, steps-good}
 use Rattle.steps.specs.Fields.{area, height, width}
 use Rattle.steps.specs.Lines.{attribute-head, step-head}

@@ -5,8 +5,8 @@ use mathlib.Core.Bool.{cond}
 use mathlib.Core.List.{List, [], _∷_}
 use lib.Dec.{eqb}
 use lib.Seq.{sets}
-use Rattle.pgm.specs.declared.Found.{Found}
-use Rattle.pgm.specs.declared.Found.the-variants.{Picture, Refused}
+use Rattle.pgm_read.specs.declared.Found.{Found}
+use Rattle.pgm_read.specs.declared.Found.the-variants.{Picture, Refused}
 
 -- an answer of one value at most, from its numbers
 abbrev pub code-of : List ℕ → ℕ

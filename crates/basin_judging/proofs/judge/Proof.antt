@@ -1,5 +1,5 @@
 -- `basin_judging::judge` meets its contract. Assumes nothing.
-use Rattle.pgm.proofs.Answers.{read-as}
+use Rattle.pgm_read.proofs.Answers.{read-as}
 use Rattle.basin_judging.proofs.Jobs.{unread, too-large, small-enough}
 use borrow.Author.Needs.{needs}
 use Rattle.basin_judging.proofs.judge.Statement.{statement}

@@ -1,9 +1,9 @@
 -- `teldruf::teldruf_read_pgm` meets its contract, by what `pgm::read` answers. Assumes nothing.
 use mathlib.Core.Path.{_∙_, sym, ap}
 use denote.Ref.{now}
-use Rattle.pgm.specs.declared.Found.{Found}
-use Rattle.pgm.specs.Read.{found-numbers}
-use Rattle.pgm.proofs.Answers.{read-as}
+use Rattle.pgm_read.specs.declared.Found.{Found}
+use Rattle.pgm_read.specs.Read.{found-numbers}
+use Rattle.pgm_read.proofs.Answers.{read-as}
 use Rattle.teldruf.specs.Codes.{number-code, head-with}
 use borrow.Author.Needs.{needs}
 use Rattle.teldruf.proofs.teldruf_read_pgm.Statement.{statement}

@@ -1,7 +1,7 @@
 -- `teldruf::teldruf_write_pgm` meets its contract, by what `pgm::write` answers. Assumes nothing.
 use mathlib.Core.Path.{_∙_, sym, ap}
 use Rattle.teldruf.specs.Codes.{code-of}
-use Rattle.pgm.specs.Write.{written-numbers}
+use Rattle.pgm_write.specs.Write.{written-numbers}
 use borrow.Author.Needs.{needs}
 use Rattle.teldruf.proofs.teldruf_write_pgm.Statement.{statement}
 use Rattle.teldruf.proofs.teldruf_write_pgm.Tie as tie

@@ -1,0 +1,4 @@
+pub mod Moves
+pub mod Scan
+pub mod Readers
+pub mod Reading

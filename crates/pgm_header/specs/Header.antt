@@ -1,0 +1,76 @@
+-- The header of a file, read from a position on: the sign, then three times a gap and a number, then one white byte.
+use Prim.Native.Nat.{ℕ, suc, _+_, _*_, _-_}
+use mathlib.Core.Bool.{Bool, true, false, not, cond, _&&_}
+use mathlib.Core.List.{List, [], _∷_}
+use lib.ListN.{length, getD, drop}
+use lib.Dec.{leb, ltb, eqb}
+use Rattle.pgm_header.specs.Bytes.{move-of, by-move, white-move, digit-move, ends-comment}
+use Rattle.pgm_header.specs.declared.Part.{Part}
+use Rattle.pgm_header.specs.declared.Part.the-variants.{Value, Broken}
+use Rattle.pgm_header.specs.declared.Header.{Header}
+use Rattle.pgm_header.specs.declared.Header.the-variants.{Read, Broken as BrokenHeader}
+
+-- "The file starts with the two bytes "P5"."
+abbrev pub sign : List ℕ
+sign = 80 ∷ 53 ∷ []
+
+abbrev pub starts-with-sign : List ℕ → Bool
+starts-with-sign file = leb (length sign) (length file) && (eqb (getD file 0 0) (getD sign 0 0) && eqb (getD file 1 0) (getD sign 1 0))
+
+-- "A gap starts with a white byte and goes on over white bytes and comments; a comment runs from # through the next 10 or 13."
+-- How many bytes of s belong to a gap that is under way; inside says whether s starts inside a comment
+unfoldable pub gap-length : Bool → List ℕ → ℕ
+gap-length inside [] = 0
+gap-length true (b ∷ s) = suc (gap-length (not (ends-comment b)) s)
+gap-length false (b ∷ s) = by-move (move-of b) (suc (gap-length false s)) (suc (gap-length true s)) 0
+
+-- whether a white byte stands at a position
+abbrev pub white-at : List ℕ → ℕ → Bool
+white-at file at = ltb at (length file) && white-move (move-of (getD file at 0))
+
+-- how many digits s starts with
+unfoldable pub digit-count : List ℕ → ℕ
+digit-count [] = 0
+digit-count (b ∷ s) = cond (digit-move (move-of b)) (suc (digit-count s)) 0
+
+-- the decimal number of the digits that s starts with, after digits of the value v
+unfoldable pub decimal-value : ℕ → List ℕ → ℕ
+decimal-value v [] = v
+decimal-value v (b ∷ s) = cond (digit-move (move-of b)) (decimal-value (v * 10 + (b - 48)) s) v
+
+-- a number that ends at a position after count digits
+abbrev pub finished-number : ℕ → ℕ → ℕ → Part
+finished-number value count at = cond (eqb count 0) Broken (Value value at)
+
+-- the most digits of a number
+abbrev pub most-digits : ℕ
+most-digits = 7
+
+-- "A number has 1 to 7 digits, leading zeros allowed." Its value, and the position after it
+unfoldable pub number-at : List ℕ → ℕ → Part
+number-at file at =
+    cond
+    (leb (digit-count (drop at file)) most-digits)
+    (finished-number (decimal-value 0 (drop at file)) (digit-count (drop at file)) (at + digit-count (drop at file)))
+    Broken
+
+-- a gap, then a number
+unfoldable pub part-at : List ℕ → ℕ → Part
+part-at file at = cond (white-at file at) (number-at file (at + gap-length false (drop at file))) Broken
+
+-- "exactly one white byte", with which the header ends
+unfoldable pub last-white-at : List ℕ → ℕ → ℕ → Part → Header
+last-white-at file width height Broken = BrokenHeader
+last-white-at file width height (Value maximum at) = cond (white-at file at) (Read width height maximum (at + 1)) BrokenHeader
+
+unfoldable pub maximum-at : List ℕ → ℕ → Part → Header
+maximum-at file width Broken = BrokenHeader
+maximum-at file width (Value height at) = last-white-at file width height (part-at file at)
+
+unfoldable pub height-at : List ℕ → Part → Header
+height-at file Broken = BrokenHeader
+height-at file (Value width at) = maximum-at file width (part-at file at)
+
+-- "Then a gap, width, gap, height, gap, maximum grey, exactly one white byte"
+unfoldable pub header-at : List ℕ → ℕ → Header
+header-at file at = height-at file (part-at file at)

@@ -1,0 +1,203 @@
+// The header of a PGM file, read from a position on: the sign, then three numbers, each after a gap, then one white byte. The magic is a
+// constant that the reader compares and the writer writes. What the numbers may be is judged by the crates above.
+ghost use mathlib.Core.Path.{_≡_};
+ghost use mathlib.Core.Bool.{false};
+ghost use Prim.Native.Nat.{_+_};
+ghost use lib.ListN.{drop};
+ghost use Rattle.pgm_header.specs.Bytes.{move-of, white-move, digit-move, ends-comment};
+ghost use Rattle.pgm_header.specs.Header.{starts-with-sign, gap-length, finished-number, number-at, white-at, part-at, header-at};
+
+pub mod reader;
+
+// "P5"
+pub const MAGIC: [u8; 2] = [80, 53];
+
+// A number has at most this many digits.
+const MOST_DIGITS: usize = 7;
+
+// The header reader's next move, by the byte that it stands at.
+pub enum Move {
+    White,
+    Digit,
+    Comment,
+    Foreign,
+}
+
+fn sort(b: u8) -> Move
+    ensures { λ r. ⌜ r ≡ move-of b ⌝ }
+{
+    match b {
+        9 | 10 | 13 | 32 => Move::White,
+        48..=57 => Move::Digit,
+        35 => Move::Comment,
+        _ => Move::Foreign,
+    }
+}
+
+fn is_white(m: Move) -> bool
+    ensures { λ r. ⌜ r ≡ white-move m ⌝ }
+{
+    match m {
+        Move::White => true,
+        Move::Digit => false,
+        Move::Comment => false,
+        Move::Foreign => false,
+    }
+}
+
+fn is_digit(m: Move) -> bool
+    ensures { λ r. ⌜ r ≡ digit-move m ⌝ }
+{
+    match m {
+        Move::White => false,
+        Move::Digit => true,
+        Move::Comment => false,
+        Move::Foreign => false,
+    }
+}
+
+// A number of the header and the position after it.
+pub enum Part {
+    Value(u32, usize),
+    Broken,
+}
+
+pub enum Header {
+    Read {
+        width: u32,
+        height: u32,
+        maximum: u32,
+        start: usize,
+    },
+    Broken,
+}
+
+// Whether the file starts with the magic.
+pub fn has_sign(file: &[u8]) -> bool
+    ensures answer { λ r. ⌜ r ≡ starts-with-sign (now (file .entry)) ⌝ }
+{
+    if file.len() < 2 {
+        return false;
+    }
+    if file[0] != MAGIC[0] {
+        return false;
+    }
+    file[1] == MAGIC[1]
+}
+
+fn ends_comment(b: u8) -> bool
+    ensures { λ r. ⌜ r ≡ ends-comment b ⌝ }
+{
+    b == 10 || b == 13
+}
+
+// The position where digits start: past the white bytes and the comments from `from` on.
+fn gap_end(file: &[u8], from: usize) -> usize
+    ensures { λ r. ⌜ r ≡ from + gap-length false (drop from (now (file .entry))) ⌝ }
+{
+    let mut at = from;
+    let digits = 'gap: loop {
+        if file.len() <= at {
+            break 'gap at;
+        }
+        match sort(file[at]) {
+            Move::White => {
+                at += 1;
+            }
+            Move::Comment => {
+                at += 1;
+                loop {
+                    if file.len() <= at {
+                        break 'gap at;
+                    }
+                    let b = file[at];
+                    at += 1;
+                    if ends_comment(b) {
+                        break;
+                    }
+                }
+            }
+            Move::Digit => break 'gap at,
+            Move::Foreign => break 'gap at,
+        }
+    };
+    digits
+}
+
+// The number that `count` digits before `at` wrote; none where there was no digit.
+fn finished(value: u32, count: usize, at: usize) -> Part
+    ensures { λ r. ⌜ r ≡ finished-number value count at ⌝ }
+{
+    if count == 0 {
+        Part::Broken
+    } else {
+        Part::Value(value, at)
+    }
+}
+
+// The number that stands at `from`.
+fn number_at(file: &[u8], from: usize) -> Part
+    ensures { λ r. ⌜ r ≡ number-at (now (file .entry)) from ⌝ }
+{
+    let mut at = from;
+    let mut value: u32 = 0;
+    let mut count: usize = 0;
+    while at < file.len() {
+        let b = file[at];
+        if !is_digit(sort(b)) {
+            return finished(value, count, at);
+        }
+        if count == MOST_DIGITS {
+            return Part::Broken;
+        }
+        value = value * 10 + ((b - 48) as u32);
+        count += 1;
+        at += 1;
+    }
+    finished(value, count, at)
+}
+
+fn white_at(file: &[u8], at: usize) -> bool
+    ensures { λ r. ⌜ r ≡ white-at (now (file .entry)) at ⌝ }
+{
+    if file.len() <= at {
+        return false;
+    }
+    is_white(sort(file[at]))
+}
+
+// The gap and the number after it that stand at `at`.
+fn part_at(file: &[u8], at: usize) -> Part
+    ensures { λ r. ⌜ r ≡ part-at (now (file .entry)) at ⌝ }
+{
+    if white_at(file, at) {
+        number_at(file, gap_end(file, at))
+    } else {
+        Part::Broken
+    }
+}
+
+// The header from `at` on, in the page's order: white, width, white, height, white, maximum, one white byte.
+fn header_at(file: &[u8], at: usize) -> Header
+    ensures { λ r. ⌜ r ≡ header-at (now (file .entry)) at ⌝ }
+{
+    let Part::Value(width, a) = part_at(file, at) else {
+        return Header::Broken;
+    };
+    let Part::Value(height, b) = part_at(file, a) else {
+        return Header::Broken;
+    };
+    let Part::Value(maximum, c) = part_at(file, b) else {
+        return Header::Broken;
+    };
+    if white_at(file, c) {
+        Header::Read {
+            width,
+            height,
+            maximum,
+            start: c + 1,
+        }
+    } else {
+        Header::Broken
+    }
+}

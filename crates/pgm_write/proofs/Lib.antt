@@ -1,0 +1,5 @@
+pub mod Stores
+pub mod Decimals
+pub mod Files
+pub mod Judging
+pub mod Answers

@@ -1,0 +1,46 @@
+-- `pgm_write::write` meets its contract. Assumes nothing.
+use Rattle.pgm_write.proofs.Judging.{writable-is, buffer-written, buffer-kept}
+use mathlib.Core.Path.{_∙_, sym, ap}
+use Rattle.pgm_write.specs.Write.{written-numbers}
+use borrow.Author.Needs.{needs}
+use Rattle.pgm_write.proofs.write.Statement.{statement}
+use Rattle.pgm_write.proofs.write.Tie as tie
+
+writable-requires : tie.Need-writable-requires
+writable-requires c κs = search needs
+
+enum-known-needed : tie.Need-enum-known-needed
+enum-known-needed c = search needs
+
+put-file-requires : tie.Need-put-file-requires
+put-file-requires c κs =
+    let w = writable-is _ _ _ _ _ _ (sym (c .before .before .before .before .writable .ensures) ∙ c .before .before .needed .given .1) in
+    (w .sides-right, (w .maximum-right, w .room-right))
+
+enum-known-cause : tie.Need-enum-known-cause
+enum-known-cause c = search needs
+
+same-length : tie.Need-same-length
+same-length c = search needs
+
+returns : tie.Need-returns
+returns c =
+    let e = sym (c .before .before .before .before .before .needed .given .1) ∙ c .before .before .before .before .before .before .before .writable .ensures in
+    (ap written-numbers e, c .before .before .put-file .ensures ∙ buffer-written _ _ _ _ _ _ (sym e))
+
+returns-2 : tie.Need-returns-2
+returns-2 c =
+    let e = sym (c .before .cause .given .1) ∙ c .before .before .before .writable .ensures in
+    (ap written-numbers e, buffer-kept _ _ _ _ _ _ (sym e))
+
+pub write-spec : {M : Type 1} → statement M
+write-spec =
+    tie.close
+    (tie.spec
+    writable-requires
+    enum-known-needed
+    put-file-requires
+    enum-known-cause
+    same-length
+    returns
+    returns-2)
