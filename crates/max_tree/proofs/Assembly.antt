@@ -29,18 +29,23 @@ use Rattle.tree.proofs.Relabel.{relabel-root, relabel-forest, relabel-owned}
 use Rattle.calls.proofs.Accepted.{Bounded, bounded}
 use Rattle.flood.specs.Levels.{grey, total, starts-of}
 use Rattle.flood.specs.Calls.{Sized, Floodable, FloodedBy}
-use Rattle.max_tree.specs.Accumulators.{nothing, single, combined, measured}
-use Rattle.max_tree.specs.Branches.{owned, branch}
+use Rattle.accumulators.specs.Accumulators.{nothing, single, combined, measured}
+use Rattle.branches.specs.Branches.{owned, branch}
 use Rattle.flood.specs.Flooding.{parent-of, order-of, darker}
 use Rattle.flood.proofs.Tables.{table-long, table-read, as-table, total-below}
-use Rattle.max_tree.specs.Listing.{Listed}
-use Rattle.max_tree.specs.Passes.{word-of, first-of, held-of, root-of, lowest-of, lowest-own-pixel, node-level, Blanked, Blank, Owned, roots, Own-held, Pourable, Poured, Recordable, Recorded}
+use Rattle.listing.specs.Listing.{Listed}
+use Rattle.parts.specs.Parts.{node-word, first-of, held-of, root-of, lowest-of, lowest-own-pixel, node-level, roots}
+use Rattle.own_pixels.specs.OwnPixels.{Blanked, Blank, Owned}
+use Rattle.representatives.specs.Representatives.{Recordable, Recorded}
+use Rattle.descendants.specs.Pouring.{Own-held, Pourable, Poured}
 use Rattle.max_tree.specs.Building.{Buildable, Ordered}
-use Rattle.max_tree.proofs.Accumulators.{single-small, gathered-ends, measured-attribute}
-use Rattle.max_tree.proofs.Branches.{node-branch}
-use Rattle.max_tree.proofs.Stores.{root-same, root-within}
+use Rattle.accumulators.proofs.Accumulators.{single-small, gathered-ends, measured-attribute}
+use Rattle.branches.proofs.Branches.{node-branch}
+use Rattle.parts.proofs.Roots.{root-same, root-within}
 use Rattle.max_tree.proofs.FloodForest.{flooded-forest}
-use Rattle.max_tree.proofs.Agreeing.{forest-same, listed-same, lowest-same, node-level-same}
+use Rattle.max_tree.proofs.FloodForest.{forest-same}
+use Rattle.listing.proofs.Listing.{listed-same}
+use Rattle.parts.proofs.Roots.{lowest-same, node-level-same}
 
 -- a list that holds two tables, one after the other
 two-tables : (n : ℕ) (f g : ℕ → ℕ) (xs : List ℕ) → 2 * n ≤ length xs → ((q : ℕ) → q < n → getD xs q 0 ≡ f q) → ((q : ℕ) → q < n → getD xs (n + q) 0 ≡ g q) → take (2 * n) xs ≡ table n f ++ table n g
@@ -224,7 +229,7 @@ module _ (w h : ℕ) (picture ws : List ℕ) (B : Buildable w h picture ws) wher
             self : (q : ℕ) → q < n → member (node n adj g q) q ≡ true
             self q b = level-self n adj g (g q) q b (le-refl (g q))
 
-            attribute-node : (q : ℕ) → q < n → roots picture ws₅ q ≡ true → word-of n ws₆ q ≡ attribute w n a (member (node n adj g q))
+            attribute-node : (q : ℕ) → q < n → roots picture ws₅ q ≡ true → node-word n ws₆ q ≡ attribute w n a (member (node n adj g q))
             attribute-node q b e =
                 P .measures (single a w) own₅ q b e
                 ∙ ap
@@ -242,7 +247,7 @@ module _ (w h : ℕ) (picture ws : List ℕ) (B : Buildable w h picture ws) wher
                 ∙ ap (λ (r : ℕ). branch g (parent-of ws₅) r x) (eqb-true (root-of picture ws₅ q) q e))))
                 ∙ measured-attribute a n w (member (node n adj g q)) q b (self q b) (short a)
 
-            attributes₆ : (q : ℕ) → q < n → word-of n ws₆ q ≡ attribute-word n adj (attribute w n a) g q
+            attributes₆ : (q : ℕ) → q < n → node-word n ws₆ q ≡ attribute-word n adj (attribute w n a) g q
             unfolding attribute-word
             attributes₆ q b =
                 ⊎-elim

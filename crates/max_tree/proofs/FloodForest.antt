@@ -26,29 +26,29 @@ joined-label label p q (then {q = m} i j) = joined-label label p m i ∙ joined-
 
 module _ (n : ℕ) (adj : Adjacency) (symm : Symmetric adj) (g par : ℕ → ℕ) (flooded : Flooded n adj g par) where
   -- the label of a component: its lowest position
-  abbrev lowest-of : ℕ → ℕ → ℕ
-  lowest-of h p = first-in n (member (component-at n adj g h p))
+  abbrev label-of : ℕ → ℕ → ℕ
+  label-of h p = first-in n (member (component-at n adj g h p))
 
-  lowest-in : (h p : ℕ) → p < n → h ≤ g p → Together n adj g h p (lowest-of h p)
+  lowest-in : (h p : ℕ) → p < n → h ≤ g p → Together n adj g h p (label-of h p)
   lowest-in h p b l =
       first-in-holds
       n
       (member (component-at n adj g h p))
       (omega (arith, first-in-le n (member (component-at n adj g h p)) p b (level-self n adj g h p b l)))
 
-  components-contain : (h : ℕ) → Contains n adj g h (λ (x y : ℕ). eqb (lowest-of h x) (lowest-of h y))
+  components-contain : (h : ℕ) → Contains n adj g h (λ (x y : ℕ). eqb (label-of h x) (label-of h y))
   components-contain h p q b c near l m =
       edge
       (eq-eqb
-      (lowest-of h p)
-      (lowest-of h q)
+      (label-of h p)
+      (label-of h q)
       (ap (λ (s : List Bool). first-in n (member s)) (level-neighbour n adj symm g h p q b c near l m)))
 
   linked : (q : ℕ) → q < n → Together n adj g (g (par q)) q (par q)
   linked q b =
       let h : ℕ = g (par q) in
-      let e : lowest-of h q ≡ lowest-of h (par q) =
-      joined-label (lowest-of h) q (par q) (flooded .links h (λ (x y : ℕ). eqb (lowest-of h x) (lowest-of h y)) (components-contain h) q b (le-refl h)) in
+      let e : label-of h q ≡ label-of h (par q) =
+      joined-label (label-of h) q (par q) (flooded .links h (λ (x y : ℕ). eqb (label-of h x) (label-of h y)) (components-contain h) q b (le-refl h)) in
       together-trans
       n
       adj
@@ -56,10 +56,10 @@ module _ (n : ℕ) (adj : Adjacency) (symm : Symmetric adj) (g par : ℕ → ℕ
       g
       h
       q
-      (lowest-of h q)
+      (label-of h q)
       (par q)
       (lowest-in h q b (flooded .rooted q b .dim))
-      (rw e (together-sym n adj symm g h (par q) (lowest-of h (par q)) (lowest-in h (par q) (flooded .within q b) (le-refl h))))
+      (rw e (together-sym n adj symm g h (par q) (label-of h (par q)) (lowest-in h (par q) (flooded .within q b) (le-refl h))))
 
   pub flooded-forest : Forest n adj g par
   flooded-forest =
@@ -72,4 +72,17 @@ module _ (n : ℕ) (adj : Adjacency) (symm : Symmetric adj) (g par : ℕ → ℕ
             λ h label agree p q b c near l m.
             joined-label label p q
             (flooded .edges h (λ (x y : ℕ). eqb (label x) (label y)) (λ x d k. edge (eq-eqb (label x) (label (par x)) (agree x d k))) p q b c near l m);
+      }
+
+-- it stays one where the words of the pixels are the same
+module _ (n : ℕ) (adj : Adjacency) (g par par' : ℕ → ℕ) (same : (q : ℕ) → q < n → par' q ≡ par q) (forest : Forest n adj g par) where
+  pub forest-same : Forest n adj g par'
+  forest-same =
+      record {
+        within = λ q b. rw (same q b) (forest .within q b);
+        dim = λ q b. rw (same q b) (forest .dim q b);
+        root = λ q b. rw (same q b, same (par q) (forest .within q b)) (forest .root q b);
+        sound = λ q b. rw (same q b) (forest .sound q b);
+        complete =
+            λ h label agree. forest .complete h label (λ q b l. agree q b (rw (same q b) l) ∙ ap label (same q b));
       }

@@ -1,12 +1,3 @@
-pub mod Accumulators
-pub mod Branches
-pub mod Stores
-pub mod Owning
-pub mod Listing
-pub mod Pouring
-pub mod Writing
 pub mod FloodForest
-pub mod Parts
-pub mod Agreeing
 pub mod Assembly
 pub mod Answering

@@ -10,7 +10,7 @@ use Rattle.tree.specs.Tree.{parents, attributes, is-representative, number-of-n
 use Rattle.causes.specs.Sides.{sides-fit}
 use Rattle.calls.specs.Calls.{grey, record-of}
 use Rattle.flood.specs.Flooding.{order-of}
-use Rattle.max_tree.specs.Listing.{Listed}
+use Rattle.listing.specs.Listing.{Listed}
 
 -- the sides fit, the picture has a byte for each pixel and the workspace six words
 pub record Buildable (w h : ℕ) (picture ws : List ℕ) : Type 0 where

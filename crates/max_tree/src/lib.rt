@@ -9,9 +9,6 @@ ghost use Rattle.calls.specs.Calls.{built, built-numbers, call-workspace};
 ghost use Rattle.flood.specs.Calls.{Sized};
 ghost use Rattle.max_tree.specs.Building.{Buildable, Ordered, Whole};
 
-mod passes;
-mod words;
-
 // The record in parts 1 and 2, with the representatives by rising level in part 3. Answers the number of nodes.
 pub fn build_ordered(
     picture: &[u8],
@@ -26,11 +23,11 @@ pub fn build_ordered(
     let w = width as usize;
     let n = w * (height as usize);
     flood::flood(picture, w, workspace);
-    passes::blank_parts(n, attribute, workspace);
-    let counts = passes::own_pixels(picture, w, attribute, workspace);
+    own_pixels::blank_parts(n, attribute, workspace);
+    let counts = own_pixels::own_pixels(picture, w, attribute, workspace);
     let starts = flood::run_starts(counts);
-    let nodes = passes::write_record(picture, starts, workspace);
-    passes::descendants(picture, attribute, nodes, workspace);
+    let nodes = representatives::write_record(picture, starts, workspace);
+    descendants::descendants(picture, attribute, nodes, workspace);
     nodes as u32
 }
 

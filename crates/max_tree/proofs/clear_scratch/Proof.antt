@@ -1,7 +1,7 @@
 -- `max_tree::clear_scratch` meets its contract: each of the four parts comes back filled. Assumes nothing.
 use Prim.Native.Nat.{_*_}
 use mathlib.Core.Path.{refl, _∙_}
-use Rattle.max_tree.proofs.Parts.{part-filled, filled-next, filled-to-end}
+use Rattle.parts.proofs.Parts.{part-filled, filled-next, filled-to-end}
 use borrow.Author.Needs.{needs}
 use native.Mathlib.Omega.{arith}
 use Rattle.max_tree.proofs.clear_scratch.Statement.{statement}

@@ -1,0 +1,1 @@
+// A list of pixels by rising level: definitions and laws only, no code.
