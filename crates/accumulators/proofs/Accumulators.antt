@@ -1,6 +1,6 @@
 -- Laws of the accumulators, for the three attributes together: joining is commutative and associative, nothing changes nothing,
 -- and the attribute of a set is read from its accumulator. Assumes nothing.
-use Prim.Native.Nat.{ℕ, zero, suc, _+_, _/_, _%_, min, max, _≤_, _<_}
+use Prim.Native.Nat.{ℕ, zero, suc, _+_, _-_, _*_, _/_, _%_, min, max, _≤_, _<_}
 use mathlib.Core.Bool.{true, false, _||_}
 use mathlib.Core.Logic.{⊎-elim}
 use mathlib.Core.Path.{_≡_, refl, sym, ap, _∙_}
@@ -13,9 +13,12 @@ use Rattle.sets.specs.Gather.{gather, least, greatest}
 use Rattle.sets.proofs.Tests.{decided, clash, is-false}
 use Rattle.sets.proofs.Laws.{some-in-intro}
 use Rattle.sets.proofs.Gather.{gather-ext, gather-one, gather-union, min-le, max-ge, min-found}
+use Rattle.grid.specs.Pixels.{pixels}
 use Rattle.grid.specs.Attributes.{side, extent, attribute}
+use Rattle.grid.specs.declared.Grid.{Grid}
 use Rattle.grid.proofs.Attributes.{extent-ends, side-le}
-use Rattle.accumulators.specs.Accumulators.{packed, nothing, single, combined, measured, gathered, bound, In-order}
+use Rattle.causes.specs.Bounds.{longest-side, most-pixels}
+use Rattle.accumulators.specs.Accumulators.{packed, nothing, single, combined, measured, gathered, Small, bound, Short, In-order}
 
 -- for the area, and for the other two
 by-area : {A : Type 0} (a : ℕ) → (eqb a 1 ≡ true → A) → (eqb a 1 ≡ false → A) → A
@@ -25,10 +28,10 @@ pub combined-comm : (a x y : ℕ) → combined a x y ≡ combined a y x
 unfolding combined
 combined-comm a x y = by-area a (λ e. rw e (omega arith)) (λ e. rw e (omega arith))
 
-packed-last : (l f : ℕ) → f ≤ 4095 → packed l f / 4096 ≡ l
+packed-last : (l f : ℕ) → f < longest-side → packed l f / longest-side ≡ l
 packed-last l f h = omega arith
 
-packed-first : (l f : ℕ) → f ≤ 4095 → packed l f % 4096 ≡ f
+packed-first : (l f : ℕ) → f < longest-side → packed l f % longest-side ≡ f
 packed-first l f h = omega arith
 
 max-assoc : (x y z : ℕ) → max (max x y) z ≡ max x (max y z)
@@ -46,12 +49,12 @@ combined-assoc a x y z =
     (λ e.
     rw (
       e,
-      packed-last (max (x / 4096) (y / 4096)) (min (x % 4096) (y % 4096)) (omega arith),
-      packed-first (max (x / 4096) (y / 4096)) (min (x % 4096) (y % 4096)) (omega arith),
-      packed-last (max (y / 4096) (z / 4096)) (min (y % 4096) (z % 4096)) (omega arith),
-      packed-first (max (y / 4096) (z / 4096)) (min (y % 4096) (z % 4096)) (omega arith),
+      packed-last (max (x / longest-side) (y / longest-side)) (min (x % longest-side) (y % longest-side)) (omega arith),
+      packed-first (max (x / longest-side) (y / longest-side)) (min (x % longest-side) (y % longest-side)) (omega arith),
+      packed-last (max (y / longest-side) (z / longest-side)) (min (y % longest-side) (z % longest-side)) (omega arith),
+      packed-first (max (y / longest-side) (z / longest-side)) (min (y % longest-side) (z % longest-side)) (omega arith),
     )
-    (cc (max-assoc (x / 4096) (y / 4096) (z / 4096), min-assoc (x % 4096) (y % 4096) (z % 4096))))
+    (cc (max-assoc (x / longest-side) (y / longest-side) (z / longest-side), min-assoc (x % longest-side) (y % longest-side) (z % longest-side))))
 
 pub combined-nothing : (a x : ℕ) → combined a x (nothing a) ≡ x
 unfolding combined nothing
@@ -81,13 +84,13 @@ combined-small a n x y h k =
     let j : y ≤ n = rw e at k in
     rw e (omega arith))
     (λ e.
-    let i : x ≤ 16777215 = rw e at h in
-    let j : y ≤ 16777215 = rw e at k in
+    let i : x ≤ longest-side * longest-side - 1 = rw e at h in
+    let j : y ≤ longest-side * longest-side - 1 = rw e at k in
     rw e (omega arith))
 
 bound-more : (a n x : ℕ) → x ≤ bound a n → x ≤ bound a (suc n)
 bound-more a n x h =
-    by-area a (λ e. let i : x ≤ n = rw e at h in rw e (omega arith)) (λ e. let i : x ≤ 16777215 = rw e at h in rw e (omega arith))
+    by-area a (λ e. let i : x ≤ n = rw e at h in rw e (omega arith)) (λ e. let i : x ≤ longest-side * longest-side - 1 = rw e at h in rw e (omega arith))
 
 nothing-small : (a n : ℕ) → nothing a ≤ bound a n
 unfolding nothing
@@ -103,19 +106,19 @@ gathered-small a (suc n) v s h =
     (λ t. rw t (bound-more a n (gathered a n v s) ih))
     (decided (s n))
 
-pub bound-small : (a n x : ℕ) → n ≤ 1048576 → x ≤ bound a n → x ≤ 16777215
+pub bound-small : (a n x : ℕ) → n ≤ most-pixels → x ≤ bound a n → Small x
 bound-small a n x l h = by-area a (λ e. omega (arith, rw e at h)) (λ e. omega (arith, rw e at h))
 
-pub bound-one : (a x : ℕ) → x ≤ bound a 1 → x ≤ 16777215
+pub bound-one : (a x : ℕ) → x ≤ bound a 1 → Small x
 bound-one a x h = bound-small a 1 x (omega arith) h
 
-pub single-small : (a w q : ℕ) → side w a q ≤ 4095 → single a w q ≤ bound a 1
+pub single-small : (grid : Grid) (a q : ℕ) → Short grid a q → single grid a q ≤ bound a 1
 unfolding single
-single-small a w q h = by-area a (λ e. rw e (omega arith)) (λ e. rw e (omega arith))
+single-small grid a q h = by-area a (λ e. rw e (omega arith)) (λ e. rw e (omega arith))
 
 -- the accumulator of a set is its area
-module _ (a w : ℕ) (e : eqb a 1 ≡ true) where
-  combined-area : (q x : ℕ) → combined a (single a w q) x ≡ 1 + x
+module _ (grid : Grid) (a : ℕ) (e : eqb a 1 ≡ true) where
+  combined-area : (q x : ℕ) → combined a (single grid a q) x ≡ 1 + x
   unfolding combined single
   combined-area q x = rw e
 
@@ -123,13 +126,13 @@ module _ (a w : ℕ) (e : eqb a 1 ≡ true) where
   unfolding nothing
   nothing-area = rw e
 
-  gathered-count : (n : ℕ) (s : Positions) → gathered a n (single a w) s ≡ count n s
+  gathered-count : (n : ℕ) (s : Positions) → gathered a n (single grid a) s ≡ count n s
   unfolding gather count
   gathered-count zero s = nothing-area
   gathered-count (suc n) s =
-      let ih : gathered a n (single a w) s ≡ count n s = gathered-count n s in
+      let ih : gathered a n (single grid a) s ≡ count n s = gathered-count n s in
       ⊎-elim
-      (λ t. rw t (combined-area n (gathered a n (single a w) s) ∙ ap (λ (k : ℕ). 1 + k) ih))
+      (λ t. rw t (combined-area n (gathered a n (single grid a) s) ∙ ap (λ (k : ℕ). 1 + k) ih))
       (λ t. rw t (omega (arith, ih)))
       (decided (s n))
 
@@ -148,70 +151,71 @@ min-start-le n d e f s q b i h =
     (min-found n e f s)
 
 -- or its two ends
-module _ (a w : ℕ) (e : eqb a 1 ≡ false) where
-  combined-ends : (q l f : ℕ) → side w a q ≤ 4095 → f ≤ 4095 → combined a (single a w q) (packed l f) ≡ packed (max (side w a q) l) (min (side w a q) f)
+module _ (grid : Grid) (a : ℕ) (e : eqb a 1 ≡ false) where
+  combined-ends : (q l f : ℕ) → side (grid .width) a q < longest-side → f < longest-side → combined a (single grid a q) (packed l f) ≡ packed (max (side (grid .width) a q) l) (min (side (grid .width) a q) f)
   unfolding combined single
   combined-ends q l f h i =
       rw (
         e,
-        packed-last (side w a q) (side w a q) h,
-        packed-first (side w a q) (side w a q) h,
+        packed-last (side (grid .width) a q) (side (grid .width) a q) h,
+        packed-first (side (grid .width) a q) (side (grid .width) a q) h,
         packed-last l f i,
         packed-first l f i,
       )
 
-  nothing-ends : nothing a ≡ packed 0 4095
+  nothing-ends : nothing a ≡ packed 0 (longest-side - 1)
   unfolding nothing
   nothing-ends = rw e
 
-  gathered-packed : (n : ℕ) (s : Positions) → ((q : ℕ) → q < n → side w a q ≤ 4095) → gathered a n (single a w) s ≡ packed (greatest n (side w a) s) (gather n min 4095 (side w a) s)
+  gathered-packed : (n : ℕ) (s : Positions) → ((q : ℕ) → q < n → Short grid a q) → gathered a n (single grid a) s ≡ packed (greatest n (side (grid .width) a) s) (gather n min (longest-side - 1) (side (grid .width) a) s)
   unfolding gather
   gathered-packed zero s short = nothing-ends
   gathered-packed (suc n) s short =
-      let l : ℕ = greatest n (side w a) s in
-      let f : ℕ = gather n min 4095 (side w a) s in
-      let ih : gathered a n (single a w) s ≡ packed l f = gathered-packed n s (λ q b. short q (omega arith)) in
+      let l : ℕ = greatest n (side (grid .width) a) s in
+      let f : ℕ = gather n min (longest-side - 1) (side (grid .width) a) s in
+      let ih : gathered a n (single grid a) s ≡ packed l f = gathered-packed n s (λ q b. short q (omega arith)) in
       ⊎-elim
-      (λ t. rw t (ap (combined a (single a w n)) ih ∙ combined-ends n l f (short n (omega arith)) (min-start n 4095 (side w a) s)))
+      (λ t. rw t (ap (combined a (single grid a n)) ih ∙ combined-ends n l f (short n (omega arith)) (omega (arith, min-start n (longest-side - 1) (side (grid .width) a) s))))
       (λ t. rw t ih)
       (decided (s n))
 
 -- the attribute of a set that is not empty is read from its accumulator
-module _ (a n w : ℕ) (s : Positions) (q : ℕ) (b : q < n) (i : s q ≡ true) (short : (x : ℕ) → x < n → side w a x ≤ 4095) where
-  same-least : gather n min 4095 (side w a) s ≡ least n (side w a) s
+module _ (grid : Grid) (a n : ℕ) (s : Positions) (q : ℕ) (b : q < n) (i : s q ≡ true) (short : (x : ℕ) → x < n → Short grid a x) where
+  same-least : gather n min (longest-side - 1) (side (grid .width) a) s ≡ least n (side (grid .width) a) s
   same-least =
       le-antisymm
-      (min-start-le n 4095 n (side w a) s q b i (omega (arith, side-le w a q)))
-      (min-start-le n n 4095 (side w a) s q b i (short q b))
+      (min-start-le n (longest-side - 1) n (side (grid .width) a) s q b i (omega (arith, side-le (grid .width) a q)))
+      (min-start-le n n (longest-side - 1) (side (grid .width) a) s q b i (omega (arith, short q b)))
 
-  ends : eqb a 1 ≡ false → gathered a n (single a w) s ≡ packed (greatest n (side w a) s) (least n (side w a) s)
-  ends e = gathered-packed a w e n s short ∙ ap (packed (greatest n (side w a) s)) same-least
+  ends : eqb a 1 ≡ false → gathered a n (single grid a) s ≡ packed (greatest n (side (grid .width) a) s) (least n (side (grid .width) a) s)
+  ends e = gathered-packed grid a e n s short ∙ ap (packed (greatest n (side (grid .width) a) s)) same-least
 
-  least-small : least n (side w a) s ≤ 4095
-  least-small = omega (arith, min-le n n (side w a) s q b i, short q b)
+  least-small : least n (side (grid .width) a) s < longest-side
+  least-small = omega (arith, min-le n n (side (grid .width) a) s q b i, short q b)
 
   -- the least is at most the greatest
-  pub gathered-ends : In-order a (gathered a n (single a w) s)
+  pub gathered-ends : In-order a (gathered a n (single grid a) s)
   gathered-ends e =
-      let l : ℕ = least n (side w a) s in
-      let g : ℕ = greatest n (side w a) s in
+      let l : ℕ = least n (side (grid .width) a) s in
+      let g : ℕ = greatest n (side (grid .width) a) s in
       rw
       (ends e, packed-first g l least-small, packed-last g l least-small)
-      (omega (arith, min-le n n (side w a) s q b i, max-ge n 0 (side w a) s q b i))
+      (omega (arith, min-le n n (side (grid .width) a) s q b i, max-ge n 0 (side (grid .width) a) s q b i))
 
-  measured-ends : eqb a 1 ≡ false → measured a (gathered a n (single a w) s) ≡ extent n (side w a) s
+  measured-ends : eqb a 1 ≡ false → measured a (gathered a n (single grid a) s) ≡ extent n (side (grid .width) a) s
   unfolding measured
   measured-ends e =
-      let l : ℕ = least n (side w a) s in
-      let g : ℕ = greatest n (side w a) s in
+      let l : ℕ = least n (side (grid .width) a) s in
+      let g : ℕ = greatest n (side (grid .width) a) s in
       rw
       (ends e, e, packed-first g l least-small, packed-last g l least-small)
-      (sym (extent-ends n (side w a) s (some-in-intro n s q b i)))
+      (sym (extent-ends n (side (grid .width) a) s (some-in-intro n s q b i)))
 
-  measured-count : eqb a 1 ≡ true → measured a (gathered a n (single a w) s) ≡ count n s
+  measured-count : eqb a 1 ≡ true → measured a (gathered a n (single grid a) s) ≡ count n s
   unfolding measured
-  measured-count e = rw e (gathered-count a w e n s)
+  measured-count e = rw e (gathered-count grid a e n s)
 
-  pub measured-attribute : measured a (gathered a n (single a w) s) ≡ attribute w n a s
+  pub measured-attribute : n ≡ pixels grid → measured a (gathered a n (single grid a) s) ≡ attribute grid a s
   unfolding attribute
-  measured-attribute = by-area a (λ e. measured-count e ∙ rw e refl) (λ e. measured-ends e ∙ rw e refl)
+  measured-attribute all =
+      by-area a (λ e. measured-count e ∙ rw (e, all) refl) (λ e. measured-ends e ∙ rw (e, all) refl)

@@ -1,8 +1,8 @@
-// The accumulators of the attributes, one word each.
+// The accumulators of the attributes, one word each: of no pixel, of one, of two sets together, and the attribute that is read from one.
 ghost use mathlib.Core.Path.{_≡_};
-ghost use Prim.Native.Nat.{_≤_, _<_, min, max};
-ghost use Rattle.grid.specs.Attributes.{side};
-ghost use Rattle.accumulators.specs.Accumulators.{nothing, single, combined, measured, In-order};
+ghost use Prim.Native.Nat.{_<_, min, max};
+ghost use Rattle.accumulators.specs.Accumulators.{nothing, single, combined, measured, Small, Short, In-order};
+use grid::Grid;
 
 fn smaller(x: u32, y: u32) -> u32
     ensures { λ r. ⌜ r ≡ min x y ⌝ }
@@ -29,34 +29,37 @@ pub fn none(attribute: u32) -> u32
     if attribute == 1 {
         return 0;
     }
-    4095
+    causes::LONGEST_SIDE - 1
 }
 
 // The accumulator of the pixel q.
-pub fn one(attribute: u32, width: usize, q: usize) -> u32
-    requires { ⌜ 0 < width ⌝ }
-    requires { ⌜ side width attribute q ≤ 4095 ⌝ }
-    ensures { λ r. ⌜ r ≡ single attribute width q ⌝ }
+pub fn one(grid: Grid, attribute: u32, q: usize) -> u32
+    requires { ⌜ 0 < grid .width ⌝ }
+    requires { ⌜ Short grid attribute q ⌝ }
+    ensures { λ r. ⌜ r ≡ single grid attribute q ⌝ }
 {
     if attribute == 1 {
         return 1;
     }
+    let width = grid.width as usize;
     if attribute == 2 {
-        return (q / width) as u32 * 4097;
+        return (q / width) as u32 * (causes::LONGEST_SIDE + 1);
     }
-    (q % width) as u32 * 4097
+    (q % width) as u32 * (causes::LONGEST_SIDE + 1)
 }
 
 // The accumulator of two sets that do not meet.
 pub fn combine(attribute: u32, x: u32, y: u32) -> u32
-    requires { ⌜ x ≤ 16777215 ⌝ }
-    requires { ⌜ y ≤ 16777215 ⌝ }
+    requires { ⌜ Small x ⌝ }
+    requires { ⌜ Small y ⌝ }
     ensures { λ r. ⌜ r ≡ combined attribute x y ⌝ }
 {
     if attribute == 1 {
         return x + y;
     }
-    larger(x / 4096, y / 4096) * 4096 + smaller(x % 4096, y % 4096)
+    let last = larger(x / causes::LONGEST_SIDE, y / causes::LONGEST_SIDE);
+    let first = smaller(x % causes::LONGEST_SIDE, y % causes::LONGEST_SIDE);
+    last * causes::LONGEST_SIDE + first
 }
 
 // The attribute that is read from an accumulator.
@@ -67,5 +70,5 @@ pub fn measure(attribute: u32, x: u32) -> u32
     if attribute == 1 {
         return x;
     }
-    x / 4096 - x % 4096 + 1
+    x / causes::LONGEST_SIDE - x % causes::LONGEST_SIDE + 1
 }

@@ -17,11 +17,12 @@ use Rattle.sets.proofs.Gather.{gather-ext, first-in-le, first-in-holds}
 use Rattle.connected.specs.Component.{Adjacency, Symmetric}
 use Rattle.tree.specs.Forest.{Forest, Node-root, node-root}
 use Rattle.tree.proofs.Forest.{node-root-self, node-root-is}
+use Rattle.causes.specs.Bounds.{words-a-pixel}
 use Rattle.causes.proofs.Lists.{length-two}
 use Rattle.flood.specs.Levels.{grey}
 use Rattle.flood.specs.Flooding.{parent-of, order-of}
 use Rattle.flood.proofs.Counts.{equal-or-not}
-use Rattle.accumulators.specs.Accumulators.{nothing, combined, measured, gathered}
+use Rattle.accumulators.specs.Accumulators.{nothing, combined, measured, gathered, Small}
 use Rattle.branches.specs.Branches.{owned, branch, poured}
 use Rattle.listing.specs.Listing.{Listed}
 use Rattle.parts.specs.Parts.{node-word, roots}
@@ -291,7 +292,7 @@ pub record Pouring (a : ℕ) (picture ws₀ : List ℕ) (m : ℕ) (ws : List ℕ
       (taken m (order-of (length picture) ws₀) i)
       r
 
-module _ (a : ℕ) (picture ws₀ : List ℕ) (m : ℕ) (start : Pourable a picture ws₀ m) where
+module _ {a : ℕ} {picture ws₀ : List ℕ} {m : ℕ} (start : Pourable a picture ws₀ m) where
   abbrev n : ℕ
   n = length picture
 
@@ -343,8 +344,8 @@ module _ (a : ℕ) (picture ws₀ : List ℕ) (m : ℕ) (start : Pourable a pict
             (λ k d. taken-none n m g (roots picture ws₀) ord (start .order) k)));
       }
 
-  pub pouring-end : (ws : List ℕ) (i : ℕ) → i ≤ 0 → Pouring a picture ws₀ m ws i → Poured a picture ws₀ ws
-  pouring-end ws i none P =
+  pub pouring-end : {ws : List ℕ} {i : ℕ} → i ≤ 0 → Pouring a picture ws₀ m ws i → Poured a picture ws₀ ws
+  pouring-end {ws} {i} none P =
       record {
         words = P .words;
         kept = P .kept;
@@ -356,7 +357,7 @@ module _ (a : ℕ) (picture ws₀ : List ℕ) (m : ℕ) (start : Pourable a pict
       }
 
   -- one place more, that of the pixel q
-  module _ (ws : List ℕ) (i q : ℕ) (pos : 0 < i) (P : Pouring a picture ws₀ m ws i) (is : q ≡ ord (i - 1)) where
+  module _ {ws : List ℕ} {i q : ℕ} (pos : 0 < i) (P : Pouring a picture ws₀ m ws i) (is : q ≡ ord (i - 1)) where
     pub within : q < n
     within = rw is (start .order .within (i - 1) (omega (arith, P .top)))
 
@@ -376,7 +377,7 @@ module _ (a : ℕ) (picture ws₀ : List ℕ) (m : ℕ) (start : Pourable a pict
     same-parent : parent-of ws q ≡ par q
     same-parent = P .kept q within
 
-    words : length ws ≡ 6 * n
+    words : length ws ≡ words-a-pixel * n
     words = P .words ∙ start .sized .words
 
     not-taken : taken m ord i q ≡ false
@@ -389,7 +390,7 @@ module _ (a : ℕ) (picture ws₀ : List ℕ) (m : ℕ) (start : Pourable a pict
     waiting : (r : ℕ) → r < n → roots picture ws₀ r ≡ true → taken m ord i r ≡ false → node-word n ws r ≡ gathered a n (start .value) (poured g par (taken m ord i) r)
     waiting r b t f = P .held (start .value) (start .own) r b t ∙ (rw f refl)
 
-    small : (r : ℕ) → r < n → roots picture ws₀ r ≡ true → taken m ord i r ≡ false → node-word n ws r ≤ 16777215
+    small : (r : ℕ) → r < n → roots picture ws₀ r ≡ true → taken m ord i r ≡ false → Small (node-word n ws r)
     small r b t f =
         rw
         (waiting r b t f)
@@ -400,7 +401,7 @@ module _ (a : ℕ) (picture ws₀ : List ℕ) (m : ℕ) (start : Pourable a pict
         (start .sized .small)
         (gathered-small a n (start .value) (poured g par (taken m ord i) r) (start .small)))
 
-    small-up : node-word n ws (par q) ≤ 16777215
+    small-up : Small (node-word n ws (par q))
     small-up =
         ⊎-elim
         (λ own. rw own (small q within root not-taken))
@@ -519,8 +520,8 @@ module _ (a : ℕ) (picture ws₀ : List ℕ) (m : ℕ) (start : Pourable a pict
               (equal-or-not q r);
         }
 
-    pub pouring-more : (part : List ℕ) → part ≡ poured-at a q (parent-of ws q) (lent n (2 * n) ws) → Pouring a picture ws₀ m (returned n (2 * n) ws part) (i - 1)
-    pouring-more part e =
+    pub pouring-more : {part : List ℕ} → part ≡ poured-at a q (parent-of ws q) (lent n (2 * n) ws) → Pouring a picture ws₀ m (returned n (2 * n) ws part) (i - 1)
+    pouring-more e =
         let here : n + q < 2 * n = omega (arith, within) in
         let there : n + par q < 2 * n = omega (arith, up-within) in
         rw

@@ -12,7 +12,7 @@ use Rattle.tree.specs.Forest.{Forest}
 use Rattle.flood.specs.Levels.{grey}
 use Rattle.flood.specs.Flooding.{parent-of, order-of}
 use Rattle.flood.specs.Calls.{Sized}
-use Rattle.accumulators.specs.Accumulators.{combined, measured, gathered, bound, In-order}
+use Rattle.accumulators.specs.Accumulators.{combined, measured, gathered, Small, bound, In-order}
 use Rattle.branches.specs.Branches.{owned, branch}
 use Rattle.listing.specs.Listing.{Listed}
 use Rattle.parts.specs.Parts.{node-word, roots}
@@ -21,8 +21,8 @@ use Rattle.parts.specs.Parts.{node-word, roots}
 pub record Pour (a q p : ℕ) (part : List ℕ) : Type 0 where
   pub within : q < length part
   pub parent : p < length part
-  pub small : getD part q 0 ≤ 16777215
-  pub small-parent : getD part p 0 ≤ 16777215
+  pub small : Small (getD part q 0)
+  pub small-parent : Small (getD part p 0)
   pub ends : In-order a (getD part q 0)
 
 -- part 2 once the accumulator of q is added to that of its parent p and its attribute stands in its place

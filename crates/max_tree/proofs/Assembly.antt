@@ -1,293 +1,268 @@
--- The passes one after the other: what each leaves is what the next asks, and at the end the words are those of the record.
--- Assumes nothing.
-use Prim.Native.Nat.{ℕ, _+_, _*_, _≤_, _<_}
-use mathlib.Core.Bool.{Bool, true, cond}
-use mathlib.Core.List.{List, _++_}
-use mathlib.Core.Logic.{⊎-elim}
-use mathlib.Core.Path.{_≡_, refl, sym, ap, subst, _∙_}
-use native.Mathlib.Nat.{le-refl, mod-lt, mul-pos, mul-comm, mul-mod-right, div-lt-iff-lt-mul}
+-- The passes one after the other: what holds after each, and that it is what the next asks. Assumes nothing.
+use Prim.Native.Nat.{ℕ, _+_, _≤_, _<_, _^_}
+use mathlib.Core.Bool.{Bool, true, false, cond}
+use mathlib.Core.List.{List}
+use mathlib.Core.Path.{_≡_, refl, sym, ap, _∙_}
+use native.Mathlib.Nat.{mod-lt, mul-comm, div-lt-iff-lt-mul}
 use native.Mathlib.Omega.{arith}
 use lib.Dec.{eqb, ltb}
-use lib.ListN.{getD, length, take, drop, length-drop}
-use lib.Seq.{length-take-le, take-add, getD-take, getD-drop}
+use lib.ListN.{getD, length}
 use borrow.Author.Tests.{eqb-true}
-use Rattle.sets.specs.Sets.{member, table}
-use Rattle.sets.proofs.Tests.{decided}
+use Rattle.sets.specs.Sets.{count}
 use Rattle.sets.proofs.Laws.{count-le, count-ext}
 use Rattle.sets.proofs.Gather.{gather-ext}
-use Rattle.connected.specs.Component.{Adjacency, Symmetric}
-use Rattle.opening.specs.Node.{node}
+use Rattle.connected.specs.Component.{Adjacency}
 use Rattle.opening.proofs.Levels.{cond-case}
-use Rattle.opening.proofs.Components.{level-self}
-use Rattle.grid.specs.Neighbours.{edge-neighbours}
-use Rattle.grid.specs.Attributes.{side, attribute}
-use Rattle.grid.proofs.Attributes.{edge-symmetric}
+use Rattle.grid.specs.Pixels.{pixels}
+use Rattle.grid.specs.Neighbours.{adjacent}
+use Rattle.grid.specs.Attributes.{side}
+use Rattle.grid.specs.declared.Grid.{Grid}
+use Rattle.grid.proofs.Attributes.{adjacent-symmetric}
 use Rattle.tree.specs.Forest.{Forest}
-use Rattle.tree.specs.Tree.{parents, attributes, parent-word, attribute-word, is-representative}
+use Rattle.tree.specs.Tree.{parents, parent-word, is-representative, number-of-nodes}
 use Rattle.tree.proofs.Record.{representative-lowest, parent-word-lowest, number-lowest}
 use Rattle.tree.proofs.Relabel.{relabel-root, relabel-forest, relabel-owned}
-use Rattle.calls.proofs.Accepted.{Bounded, bounded}
+use Rattle.causes.specs.Bounds.{longest-side}
+use Rattle.causes.proofs.Laws.{Bounded, bounded}
 use Rattle.flood.specs.Levels.{grey, total, starts-of}
-use Rattle.flood.specs.Calls.{Sized, Floodable, FloodedBy}
-use Rattle.accumulators.specs.Accumulators.{nothing, single, combined, measured}
-use Rattle.branches.specs.Branches.{owned, branch}
 use Rattle.flood.specs.Flooding.{parent-of, order-of, darker}
-use Rattle.flood.proofs.Tables.{table-long, table-read, as-table, total-below}
+use Rattle.flood.specs.Calls.{Sized, Floodable, FloodedBy}
+use Rattle.flood.proofs.Tables.{table-long, table-read, total-below}
+use Rattle.accumulators.specs.Accumulators.{nothing, single, combined, gathered, Short}
+use Rattle.branches.specs.Branches.{owned}
 use Rattle.listing.specs.Listing.{Listed}
-use Rattle.parts.specs.Parts.{node-word, first-of, held-of, root-of, lowest-of, lowest-own-pixel, node-level, roots}
-use Rattle.own_pixels.specs.OwnPixels.{Blanked, Blank, Owned}
-use Rattle.representatives.specs.Representatives.{Recordable, Recorded}
-use Rattle.descendants.specs.Pouring.{Own-held, Pourable, Poured}
-use Rattle.max_tree.specs.Building.{Buildable, Ordered}
-use Rattle.accumulators.proofs.Accumulators.{single-small, gathered-ends, measured-attribute}
-use Rattle.branches.proofs.Branches.{node-branch}
-use Rattle.parts.proofs.Roots.{root-same, root-within}
-use Rattle.max_tree.proofs.FloodForest.{flooded-forest}
-use Rattle.max_tree.proofs.FloodForest.{forest-same}
 use Rattle.listing.proofs.Listing.{listed-same}
-use Rattle.parts.proofs.Roots.{lowest-same, node-level-same}
+use Rattle.parts.specs.Parts.{node-word, first-of, held-of, root-of, lowest-of, lowest-own-pixel, node-level, roots}
+use Rattle.parts.proofs.Roots.{root-same, root-within, lowest-same, node-level-same}
+use Rattle.own_pixels.specs.OwnPixels.{blanked, Blank, Owned}
+use Rattle.own_pixels.proofs.Blanking.{Blank-words, blank-words}
+use Rattle.representatives.specs.Representatives.{Recordable, Recorded}
+use Rattle.descendants.specs.Pouring.{Own-held}
+use Rattle.max_tree.specs.Building.{Buildable}
+use Rattle.max_tree.proofs.FloodForest.{flooded-forest, forest-same}
 
--- a list that holds two tables, one after the other
-two-tables : (n : ℕ) (f g : ℕ → ℕ) (xs : List ℕ) → 2 * n ≤ length xs → ((q : ℕ) → q < n → getD xs q 0 ≡ f q) → ((q : ℕ) → q < n → getD xs (n + q) 0 ≡ g q) → take (2 * n) xs ≡ table n f ++ table n g
-two-tables n f g xs size first second =
-    let both : 2 * n ≡ n + n = omega arith in
-    let half : n ≤ length (drop n xs) = rw (length-drop n xs) (omega arith) in
-    let one : take n xs ≡ table n f =
-    as-table f (length-take-le n xs (omega arith)) (λ q b. getD-take n xs q 0 b ∙ first q b) in
-    let two : take n (drop n xs) ≡ table n g =
-    as-table g (length-take-le n (drop n xs) half) (λ q b. getD-take n (drop n xs) q 0 b ∙ getD-drop n xs q 0 ∙ second q b) in
-    rw (both, take-add n n xs, one, two) refl
+-- the flood leaves the parent words of a forest
+pub record Flood-left (grid : Grid) (picture ws : List ℕ) : Type 0 where
+  pub fits : Bounded (grid .width) (grid .height)
+  pub bytes : length picture ≡ pixels grid
+  pub greys : (x : ℕ) → grey picture x < 256
+  pub sized : Sized (length picture) ws
+  pub forest : Forest (length picture) (adjacent grid) (grey picture) (parent-of ws)
 
-module _ (w h : ℕ) (picture ws : List ℕ) (B : Buildable w h picture ws) where
-  fits : Bounded w h
-  fits = bounded w h (B .sides)
+-- the pass over the own pixels leaves zeros in part 2, the lowest own pixel of each node in part 4 and the accumulator of its own pixels in
+-- part 5, and answers how many nodes each level has
+pub record Own-left (grid : Grid) (a : ℕ) (picture ws counts : List ℕ) : Type 0 where
+  pub flood : Flood-left grid picture ws
+  pub zero : (q : ℕ) → q < length picture → node-word (length picture) ws q ≡ 0
+  pub first :
+      (q : ℕ) → q < length picture
+      → first-of (length picture) ws (root-of picture ws q) ≡ lowest-of picture ws (root-of picture ws q)
+  pub held :
+      (r : ℕ) → r < length picture
+      → held-of (length picture) ws r
+      ≡ gathered a (length picture) (single grid a) (owned (grey picture) (parent-of ws) r)
+  pub nodes : (l : ℕ) → l < 256 → getD counts l 0 ≡ count (length picture) (λ (q : ℕ). eqb (node-level picture ws q) l)
 
-  sized : Sized (length picture) ws
-  sized = record { words = omega (arith, B .bytes, B .words); small = omega (arith, B .bytes, fits .small) }
+-- the pass that writes the representatives leaves the parent words of the record in part 1, the accumulators of the own pixels in part 2
+-- and the list of the representatives in part 3, and answers the number of nodes
+pub record Record-left (grid : Grid) (a : ℕ) (picture ws : List ℕ) (nodes : ℕ) : Type 0 where
+  pub flood : Flood-left grid picture ws
+  pub parents : (q : ℕ) → q < length picture → getD ws q 0 ≡ parent-word (length picture) (adjacent grid) (grey picture) q
+  pub stands :
+      (q : ℕ) → q < length picture
+      → roots picture ws q ≡ is-representative (length picture) (adjacent grid) (grey picture) q
+  pub own : Own-held a picture ws (single grid a)
+  pub others : (q : ℕ) → q < length picture → roots picture ws q ≡ false → node-word (length picture) ws q ≡ 0
+  pub order :
+      Listed
+      (length picture)
+      nodes
+      (grey picture)
+      (is-representative (length picture) (adjacent grid) (grey picture))
+      (order-of (length picture) ws)
+  pub number : nodes ≡ number-of-nodes (length picture) (adjacent grid) (grey picture)
 
-  pub blank-sized : (ws' : List ℕ) → length ws' ≡ length ws → Sized (w * h) ws'
-  blank-sized ws' long = record { words = long ∙ B .words; small = fits .small }
+module _ {grid : Grid} {picture ws : List ℕ} (B : Buildable grid picture ws) where
+  fits : Bounded (grid .width) (grid .height)
+  fits = bounded (grid .width) (grid .height) (B .sides)
 
-  pub flood-asked : Floodable w picture ws
-  flood-asked =
+  pub sized : {ws' : List ℕ} → length ws' ≡ length ws → Sized ((length picture)) ws'
+  sized long = record { words = long ∙ omega (arith, B .bytes, B .words); small = omega (arith, B .bytes, fits .small) }
+
+  pub flood-asked : Floodable grid picture ws
+  flood-asked = record { sized = sized refl; whole = B .bytes; wide = fits .wide; high = fits .high }
+
+  pub flood-left : {ws' : List ℕ} → ((x : ℕ) → grey picture x < 256) → length ws' ≡ length ws → FloodedBy grid picture ws' → Flood-left grid picture ws'
+  flood-left {ws'} greys long left =
       record {
-        sized = sized;
-        some = rw (B .bytes) (mul-pos (fits .wide) (fits .high));
-        columns = fits .wide;
-        whole = rw (B .bytes) (mul-mod-right w h);
+        fits = fits;
+        bytes = B .bytes;
+        greys = greys;
+        sized = sized long;
+        forest = flooded-forest ((length picture)) (adjacent grid) (adjacent-symmetric grid) (grey picture) (parent-of ws') left;
       }
 
-  -- rows and columns are short
-  short : (a q : ℕ) → q < length picture → side w a q ≤ 4095
-  unfolding side
-  short a q b =
-      cond-case
-      (λ (k : ℕ). k ≤ 4095)
-      (eqb a 2)
-      (λ e. omega (arith, div-lt-iff-lt-mul {k = w} {x = q} {y = h} (fits .wide) .1 (omega (arith, B .bytes, mul-comm w h)), fits .not-higher))
-      (λ e. omega (arith, mod-lt q (fits .wide), fits .not-wider))
+-- rows and columns are short
+pub short : {grid : Grid} {picture ws : List ℕ} → Flood-left grid picture ws → (a q : ℕ) → q < length picture → Short grid a q
+unfolding side
+short {grid} F a q b =
+    let w : ℕ = grid .width in
+    let h : ℕ = grid .height in
+    cond-case
+    (λ (k : ℕ). k < longest-side)
+    (eqb a 2)
+    (λ e. omega (arith, div-lt-iff-lt-mul {k = w} {x = q} {y = h} (F .fits .wide) .1 (omega (arith, F .bytes, mul-comm w h)), F .fits .not-higher))
+    (λ e. omega (arith, mod-lt q (F .fits .wide), F .fits .not-wider))
 
-  -- after the flood, and the blanking of parts 2, 4 and 5
-  module _ (a : ℕ) (ws₁ ws₃ : List ℕ) (long : length ws₁ ≡ length ws) (left : FloodedBy w picture ws₁) (F : Blanked (w * h) a ws₁ ws₃) (bytes : (x : ℕ) → grey picture x < 256) where
-    abbrev n : ℕ
-    n = length picture
+-- parts 2, 4 and 5 are blank
+module _ {grid : Grid} {a : ℕ} {picture ws ws₁ : List ℕ} (F : Flood-left grid picture ws) (is : ws₁ ≡ blanked ((length picture)) a ws) where
+  blank : Blank-words ((length picture)) a ws ws₁
+  blank = blank-words ((length picture)) a ws ws₁ (F .sized .words) is
 
-    abbrev adj : Adjacency
-    adj = edge-neighbours w
+  pub own-asked : Blank grid a picture ws₁
+  own-asked =
+      record {
+        sized = record { words = blank .words ∙ F .sized .words; small = F .sized .small };
+        bytes = F .greys;
+        wide = F .fits .wide;
+        short = short F a;
+        within = λ q b. rw (blank .parents q b) (F .forest .within q b);
+        unnoted = blank .unnoted;
+        blank = blank .blank;
+      }
 
-    symm : Symmetric adj
-    symm = edge-symmetric w
+  -- after the pass over the own pixels
+  module _ {ws' counts : List ℕ} (O : Owned grid a picture ws₁ ws' counts) where
+    same-parent : (q : ℕ) → q < length picture → parent-of ws' q ≡ parent-of ws₁ q
+    same-parent q b = O .kept q (omega arith)
 
-    abbrev g : ℕ → ℕ
-    g = grey picture
+    same-root : (q : ℕ) → q < length picture → root-of picture ws' q ≡ root-of picture ws₁ q
+    same-root q b = root-same picture ws' ws₁ q (same-parent q b)
 
-    flooded : Forest n adj g (parent-of ws₁)
-    flooded = flooded-forest n adj symm g (parent-of ws₁) left
-
-    -- the same of as many pixels as the picture has bytes
-    blank₃ : Blanked n a ws₁ ws₃
-    blank₃ = subst (λ (k : ℕ). Blanked k a ws₁ ws₃) (sym (B .bytes)) F
-
-    words₃ : length ws₃ ≡ 6 * n
-    words₃ = F .words ∙ long ∙ sized .words
-
-    pub blank-asked : Blank w a picture ws₃
-    blank-asked =
+    pub own-left : Own-left grid a picture ws' counts
+    own-left =
         record {
-          sized = record { words = words₃; small = sized .small };
-          bytes = bytes;
-          columns = fits .wide;
-          short = short a;
-          within = λ q b. rw (blank₃ .parents q b) (flooded .within q b);
-          unnoted = blank₃ .unnoted;
-          blank = blank₃ .blank;
-        }
-
-    -- after the pass over the own pixels
-    module _ (ws₄ counts : List ℕ) (O : Owned w a picture ws₃ ws₄ counts) where
-      same-own : (q : ℕ) → q < n → parent-of ws₄ q ≡ parent-of ws₃ q
-      same-own q b = O .kept q (omega arith)
-
-      forest₄ : Forest n adj g (parent-of ws₄)
-      forest₄ = forest-same n adj g (parent-of ws₁) (parent-of ws₄) (λ q b. same-own q b ∙ blank₃ .parents q b) flooded
-
-      same-root : (q : ℕ) → q < n → root-of picture ws₄ q ≡ root-of picture ws₃ q
-      same-root q b = root-same picture ws₄ ws₃ q (same-own q b)
-
-      starts-at : (l : ℕ) → l ≤ 256 → total l (λ (k : ℕ). getD counts k 0) ≡ darker n (node-level picture ws₄) l
-      starts-at l b =
-          total-below (node-level picture ws₃) counts n (O .nodes) l b
-          ∙ count-ext
-          n
-          (λ (q : ℕ). ltb (node-level picture ws₃ q) l)
-          (λ (q : ℕ). ltb (node-level picture ws₄ q) l)
-          (λ q c. ap (λ (k : ℕ). ltb k l) (sym (node-level-same picture ws₃ ws₄ same-own q c)))
-
-      pub starts-asked : total 256 (λ (k : ℕ). getD counts k 0) < 18446744073709551616
-      starts-asked =
-          omega (arith, starts-at 256 (omega arith), count-le n (λ (q : ℕ). ltb (node-level picture ws₄ q) 256), sized .small)
-
-      -- after the runs are laid out
-      module _ (starts : List ℕ) (T : starts ≡ starts-of counts) where
-        pub record-asked : Recordable picture ws₄ starts
-        record-asked =
-            record {
-              sized = record { words = O .words ∙ words₃; small = sized .small };
-              bytes = bytes;
-              within = forest₄ .within;
-              root = forest₄ .root;
-              first =
-                  λ q b.
-                  ap (first-of n ws₄) (same-root q b)
-                  ∙ O .first q b
-                  ∙ ap (lowest-of picture ws₃) (sym (same-root q b))
-                  ∙ lowest-same picture ws₃ ws₄ same-own (root-of picture ws₄ q);
-              zero = λ q b. O .kept (n + q) (omega arith) ∙ blank₃ .zero q b;
-              wide = table-long _ T;
-              run-starts = λ l b. table-read _ T l b ∙ starts-at l (omega arith);
-            }
-
-        -- after the record is written
-        module _ (ws₅ : List ℕ) (nodes : ℕ) (R : Recorded picture ws₄ ws₅ nodes) where
-          forest₅ : Forest n adj g (parent-of ws₅)
-          forest₅ = relabel-forest n adj symm g (parent-of ws₄) forest₄ (parent-of ws₅) (R .parents)
-
-          root₅ : (q : ℕ) → q < n → root-of picture ws₅ q ≡ lowest-of picture ws₄ (root-of picture ws₄ q)
-          root₅ = relabel-root n adj symm g (parent-of ws₄) forest₄ (parent-of ws₅) (R .parents)
-
-          roots₅ : (q : ℕ) → q < n → roots picture ws₅ q ≡ lowest-own-pixel picture ws₄ q
-          roots₅ q b = ap (λ (k : ℕ). eqb k q) (root₅ q b)
-
-          few : nodes ≤ n
-          few = omega (arith, R .number, count-le n (lowest-own-pixel picture ws₄))
-
-          own₅ : Own-held a picture ws₅ (single a w)
-          own₅ r b e =
-              let s : ℕ = root-of picture ws₄ r in
-              let first : lowest-own-pixel picture ws₄ r ≡ true = sym (roots₅ r b) ∙ e in
-              R .held r b
-              ∙ ap (λ (t : Bool). cond t (held-of n ws₄ s) 0) first
-              ∙ O .held s (root-within picture ws₄ r b (forest₄ .within r b))
+          flood =
+              record {
+                fits = F .fits;
+                bytes = F .bytes;
+                greys = F .greys;
+                sized = record { words = O .words ∙ blank .words ∙ F .sized .words; small = F .sized .small };
+                forest =
+                    forest-same
+                    ((length picture))
+                    (adjacent grid)
+                    (grey picture)
+                    (parent-of ws)
+                    (parent-of ws')
+                    (λ q b. same-parent q b ∙ blank .parents q b)
+                    (F .forest);
+              };
+          zero = λ q b. O .kept (length picture + q) (omega arith) ∙ blank .zero q b;
+          first =
+              λ q b.
+              ap (first-of ((length picture)) ws') (same-root q b)
+              ∙ O .first q b
+              ∙ ap (lowest-of picture ws₁) (sym (same-root q b))
+              ∙ lowest-same picture ws₁ ws' same-parent (root-of picture ws' q);
+          held =
+              λ r b.
+              O .held r b
               ∙ gather-ext
-              n
+              ((length picture))
               (combined a)
               (nothing a)
-              (single a w)
-              (owned g (parent-of ws₃) s)
-              (owned g (parent-of ws₅) r)
-              (λ x c.
-              ap (λ (k : ℕ). eqb k s) (sym (same-root x c))
-              ∙ sym (relabel-owned n adj symm g (parent-of ws₄) forest₄ (parent-of ws₅) (R .parents) r x b c (eqb-true (lowest-of picture ws₄ s) r first)))
+              (single grid a)
+              (owned (grey picture) (parent-of ws₁) r)
+              (owned (grey picture) (parent-of ws') r)
+              (λ x c. ap (λ (k : ℕ). eqb k r) (sym (same-root x c)));
+          nodes =
+              λ l b.
+              table-read _ (O .counted) l b
+              ∙ count-ext
+              ((length picture))
+              (λ (q : ℕ). eqb (node-level picture ws₁ q) l)
+              (λ (q : ℕ). eqb (node-level picture ws' q) l)
+              (λ q c. ap (λ (k : ℕ). eqb k l) (sym (node-level-same picture ws₁ ws' same-parent q c)));
+        }
 
-          pub pour-asked : Pourable a picture ws₅ nodes
-          pour-asked =
+module _ {grid : Grid} {a : ℕ} {picture ws counts : List ℕ} (O : Own-left grid a picture ws counts) where
+  abbrev n : ℕ
+  n = length picture
+
+  abbrev adj : Adjacency
+  adj = adjacent grid
+
+  abbrev g : ℕ → ℕ
+  g = grey picture
+
+  forest : Forest n adj g (parent-of ws)
+  forest = O .flood .forest
+
+  starts-at : (l : ℕ) → l ≤ 256 → total l (λ (k : ℕ). getD counts k 0) ≡ darker n (node-level picture ws) l
+  starts-at l b = total-below (node-level picture ws) counts n (O .nodes) l b
+
+  pub starts-asked : total 256 (λ (k : ℕ). getD counts k 0) < 2 ^ 64
+  starts-asked =
+      omega (arith, starts-at 256 (omega arith), count-le n (λ (q : ℕ). ltb (node-level picture ws q) 256), O .flood .sized .small)
+
+  pub record-asked : {starts : List ℕ} → starts ≡ starts-of counts → Recordable picture ws starts
+  record-asked is =
+      record {
+        sized = O .flood .sized;
+        bytes = O .flood .greys;
+        within = forest .within;
+        root = forest .root;
+        first = O .first;
+        zero = O .zero;
+        wide = table-long _ is;
+        run-starts = λ l b. table-read _ is l b ∙ starts-at l (omega arith);
+      }
+
+  -- after the record is written
+  module _ {ws' : List ℕ} {nodes : ℕ} (R : Recorded picture ws ws' nodes) where
+    new-root : (q : ℕ) → q < n → roots picture ws' q ≡ lowest-own-pixel picture ws q
+    new-root q b =
+        ap (λ (k : ℕ). eqb k q) (relabel-root n adj (adjacent-symmetric grid) g (parent-of ws) forest (parent-of ws') (R .parents) q b)
+
+    represents : (q : ℕ) → q < n → is-representative n adj g q ≡ lowest-own-pixel picture ws q
+    unfolding is-representative
+    represents q b = ap (λ (k : ℕ). eqb k q) (representative-lowest n adj (adjacent-symmetric grid) g (parent-of ws) forest q b)
+
+    own-held : Own-held a picture ws' (single grid a)
+    own-held r b e =
+        let s : ℕ = root-of picture ws r in
+        let first : lowest-own-pixel picture ws r ≡ true = sym (new-root r b) ∙ e in
+        R .held r b
+        ∙ ap (λ (t : Bool). cond t (held-of n ws s) 0) first
+        ∙ O .held s (root-within picture ws r b (forest .within r b))
+        ∙ gather-ext
+        n
+        (combined a)
+        (nothing a)
+        (single grid a)
+        (owned g (parent-of ws) s)
+        (owned g (parent-of ws') r)
+        (λ x c.
+        sym (relabel-owned n adj (adjacent-symmetric grid) g (parent-of ws) forest (parent-of ws') (R .parents) r x b c (eqb-true (lowest-of picture ws s) r first)))
+
+    pub record-left : Record-left grid a picture ws' nodes
+    record-left =
+        record {
+          flood =
               record {
-                sized = record { words = R .words ∙ O .words ∙ words₃; small = sized .small };
-                adj = adj;
-                symm = symm;
-                forest = forest₅;
-                few = few;
-                order = listed-same n nodes g (lowest-own-pixel picture ws₄) (roots picture ws₅) (order-of n ws₅) (order-of n ws₅) roots₅ (λ i b. refl) (R .order);
-                value = single a w;
-                small = λ q b. single-small a w q (short a q b);
-                ends = λ s q b i e. gathered-ends a n w s q b i (short a) e;
-                own = own₅;
-              }
-
-          pub nodes-small : nodes ≤ 1048576
-          nodes-small = omega (arith, few, sized .small)
-
-          -- after the pass over the descendants
-          module _ (ws₆ : List ℕ) (P : Poured a picture ws₅ ws₆) where
-            parents₆ : (q : ℕ) → q < n → getD ws₆ q 0 ≡ parent-word n adj g q
-            parents₆ q b = P .kept q b ∙ R .parents q b ∙ sym (parent-word-lowest n adj symm g (parent-of ws₄) forest₄ q b)
-
-            stands : (q : ℕ) → q < n → is-representative n adj g q ≡ lowest-own-pixel picture ws₄ q
-            unfolding is-representative
-            stands q b = ap (λ (k : ℕ). eqb k q) (representative-lowest n adj symm g (parent-of ws₄) forest₄ q b)
-
-            self : (q : ℕ) → q < n → member (node n adj g q) q ≡ true
-            self q b = level-self n adj g (g q) q b (le-refl (g q))
-
-            attribute-node : (q : ℕ) → q < n → roots picture ws₅ q ≡ true → node-word n ws₆ q ≡ attribute w n a (member (node n adj g q))
-            attribute-node q b e =
-                P .measures (single a w) own₅ q b e
-                ∙ ap
-                (measured a)
-                (gather-ext
-                n
-                (combined a)
-                (nothing a)
-                (single a w)
-                (branch g (parent-of ws₅) q)
-                (member (node n adj g q))
-                (λ x c.
-                sym
-                (node-branch n adj symm g (parent-of ws₅) forest₅ q x b c
-                ∙ ap (λ (r : ℕ). branch g (parent-of ws₅) r x) (eqb-true (root-of picture ws₅ q) q e))))
-                ∙ measured-attribute a n w (member (node n adj g q)) q b (self q b) (short a)
-
-            attributes₆ : (q : ℕ) → q < n → node-word n ws₆ q ≡ attribute-word n adj (attribute w n a) g q
-            unfolding attribute-word
-            attributes₆ q b =
-                ⊎-elim
-                (λ t. attribute-node q b t ∙ sym (ap (λ (k : Bool). cond k (attribute w n a (member (node n adj g q))) 0) (stands q b ∙ sym (roots₅ q b) ∙ t)))
-                (λ t.
-                P .others q b t
-                ∙ R .held q b
-                ∙ ap (λ (k : Bool). cond k (held-of n ws₄ (root-of picture ws₄ q)) 0) (sym (roots₅ q b) ∙ t)
-                ∙ sym (ap (λ (k : Bool). cond k (attribute w n a (member (node n adj g q))) 0) (stands q b ∙ sym (roots₅ q b) ∙ t)))
-                (decided (roots picture ws₅ q))
-
-            words₆ : length ws₆ ≡ 6 * n
-            words₆ = P .words ∙ R .words ∙ O .words ∙ words₃
-
-            tree₆ : take (2 * n) ws₆ ≡ parents n adj g ++ attributes n adj (attribute w n a) g
-            unfolding parents attributes
-            tree₆ = two-tables n (parent-word n adj g) (attribute-word n adj (attribute w n a) g) ws₆ (omega (arith, words₆)) parents₆ attributes₆
-
-            order₆ : Listed n nodes g (is-representative n adj g) (order-of n ws₆)
-            order₆ =
-                listed-same
-                n
-                nodes
-                g
-                (lowest-own-pixel picture ws₄)
-                (is-representative n adj g)
-                (order-of n ws₅)
-                (order-of n ws₆)
-                stands
-                (λ i b. P .rest (2 * n + i) (omega arith))
-                (R .order)
-
-            pub ordered : Ordered (w * h) w a picture ws₆ nodes
-            ordered =
-                subst
-                (λ (m : ℕ). Ordered m w a picture ws₆ nodes)
-                (B .bytes)
-                (record {
-                  words = words₆;
-                  tree = tree₆;
-                  order = order₆;
-                  number = R .number ∙ sym (number-lowest n adj symm g (parent-of ws₄) forest₄);
-                })
+                fits = O .flood .fits;
+                bytes = O .flood .bytes;
+                greys = O .flood .greys;
+                sized = record { words = R .words ∙ O .flood .sized .words; small = O .flood .sized .small };
+                forest = relabel-forest n adj (adjacent-symmetric grid) g (parent-of ws) forest (parent-of ws') (R .parents);
+              };
+          parents = λ q b. R .parents q b ∙ sym (parent-word-lowest n adj (adjacent-symmetric grid) g (parent-of ws) forest q b);
+          stands = λ q b. new-root q b ∙ sym (represents q b);
+          own = own-held;
+          others =
+              λ q b e.
+              R .held q b ∙ ap (λ (t : Bool). cond t (held-of n ws (root-of picture ws q)) 0) (sym (new-root q b) ∙ e);
+          order = listed-same n nodes g (lowest-own-pixel picture ws) (is-representative n adj g) (order-of n ws') (order-of n ws') represents (λ i b. refl) (R .order);
+          number = R .number ∙ sym (number-lowest n adj (adjacent-symmetric grid) g (parent-of ws) forest);
+        }

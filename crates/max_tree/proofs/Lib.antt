@@ -1,3 +1,4 @@
 pub mod FloodForest
 pub mod Assembly
+pub mod Ordering
 pub mod Answering

@@ -1,30 +1,22 @@
-// The max-tree of a picture: the record that is kept of it in a workspace of 6n words, part 1 the parents, part 2 the attributes, parts
-// 3 to 6 scratch. The flood leaves parent words only, and the passes make the record of them.
+// The max-tree of a picture: the record that is kept of it in a workspace of six words a pixel, part 1 the parents, part 2 the attributes,
+// parts 3 to 6 scratch. The flood leaves parent words only, and the passes make the record of them.
 ghost use mathlib.Core.List.{_++_};
 ghost use mathlib.Core.Path.{_≡_};
 ghost use Prim.Native.Nat.{_*_};
-ghost use lib.ListN.{length, take, replicate};
-ghost use Rattle.calls.specs.Judging.{build-verdict};
-ghost use Rattle.calls.specs.Calls.{built, built-numbers, call-workspace};
+ghost use lib.ListN.{take, replicate};
+ghost use Rattle.calls.specs.Calls.{build-call, built, built-numbers, build-workspace};
 ghost use Rattle.flood.specs.Calls.{Sized};
 ghost use Rattle.max_tree.specs.Building.{Buildable, Ordered, Whole};
+use grid::Grid;
 
 // The record in parts 1 and 2, with the representatives by rising level in part 3. Answers the number of nodes.
-pub fn build_ordered(
-    picture: &[u8],
-    width: u32,
-    height: u32,
-    attribute: u32,
-    workspace: &mut [u32],
-) -> u32
-    requires { ⌜ Buildable width height (now picture) (now workspace) ⌝ }
-    ensures { λ r. ⌜ Ordered (width * height) width attribute (now (picture .entry)) (now (workspace .exit)) r ⌝ }
+pub fn build_ordered(picture: &[u8], grid: Grid, attribute: u32, workspace: &mut [u32]) -> u32
+    requires { ⌜ Buildable grid (now picture) (now workspace) ⌝ }
+    ensures { λ r. ⌜ Ordered grid attribute (now (picture .entry)) (now (workspace .exit)) r ⌝ }
 {
-    let w = width as usize;
-    let n = w * (height as usize);
-    flood::flood(picture, w, workspace);
-    own_pixels::blank_parts(n, attribute, workspace);
-    let counts = own_pixels::own_pixels(picture, w, attribute, workspace);
+    flood::flood(picture, grid, workspace);
+    own_pixels::blank_parts(picture.len(), attribute, workspace);
+    let counts = own_pixels::own_pixels(picture, grid, attribute, workspace);
     let starts = flood::run_starts(counts);
     let nodes = representatives::write_record(picture, starts, workspace);
     descendants::descendants(picture, attribute, nodes, workspace);
@@ -43,47 +35,32 @@ pub fn clear_scratch(n: usize, workspace: &mut [u32])
 }
 
 // The whole record, with zero scratch. Answers the number of nodes.
-pub fn build_record(
-    picture: &[u8],
-    width: u32,
-    height: u32,
-    attribute: u32,
-    workspace: &mut [u32],
-) -> u32
-    requires { ⌜ Buildable width height (now picture) (now workspace) ⌝ }
-    ensures { λ r. ⌜ Whole width height attribute (now (picture .entry)) (now (workspace .exit)) r ⌝ }
+pub fn build_record(picture: &[u8], grid: Grid, attribute: u32, workspace: &mut [u32]) -> u32
+    requires { ⌜ Buildable grid (now picture) (now workspace) ⌝ }
+    ensures { λ r. ⌜ Whole grid attribute (now (picture .entry)) (now (workspace .exit)) r ⌝ }
 {
-    let nodes = build_ordered(picture, width, height, attribute, workspace);
-    clear_scratch((width as usize) * (height as usize), workspace);
+    let nodes = build_ordered(picture, grid, attribute, workspace);
+    clear_scratch(picture.len(), workspace);
     nodes
 }
 
 // Builds the tree of a picture: the workspace holds its record, and the answer is the number of nodes.
-pub fn build(
-    picture: &[u8],
-    width: u32,
-    height: u32,
-    attribute: u32,
-    workspace: &mut [u32],
-) -> calls::Built
-    ensures answer { λ r. ⌜ built-numbers r ≡ built-numbers (built width height attribute (now (picture .entry)) (now (workspace .entry))) ⌝ }
-    ensures workspace { λ _. ⌜ now (workspace .exit) ≡ call-workspace (build-verdict width height attribute (length (now (picture .entry))) (length (now (workspace .entry)))) width height attribute (now (picture .entry)) (now (workspace .entry)) ⌝ }
+pub fn build(picture: &[u8], grid: Grid, attribute: u32, workspace: &mut [u32]) -> calls::Built
+    ensures answer { λ r. ⌜ built-numbers r ≡ built-numbers (built (build-call picture grid attribute workspace)) ⌝ }
+    ensures workspace { λ _. ⌜ now (workspace .exit) ≡ build-workspace (build-call picture grid attribute workspace) ⌝ }
 {
-    let verdict = calls::judge(
-        width,
-        height,
-        attribute,
-        picture.len(),
-        true,
-        workspace.len(),
-        true,
+    let named = calls::judge_picture(grid, picture.len(), attribute);
+    let verdict = calls::also(
+        named,
+        calls::words_each(grid, workspace.len()),
+        causes::Cause::Workspace,
     );
     match verdict {
         calls::Verdict::Refused(cause) => {
             return calls::Built::Refused(cause);
         }
         calls::Verdict::Accepted => {
-            let nodes = build_record(picture, width, height, attribute, workspace);
+            let nodes = build_record(picture, grid, attribute, workspace);
             return calls::Built::Nodes(nodes);
         }
     }

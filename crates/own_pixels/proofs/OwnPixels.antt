@@ -1,4 +1,4 @@
--- The parts that are blank before the pass over the own pixels, and the pass, in order of position: what holds when the pixels below i have been taken, one more of them, and the
+-- The pass over the own pixels, in order of position: what holds when the pixels below i have been taken, one more of them, and the
 -- end. Assumes nothing.
 use Prim.Native.Nat.{ℕ, _+_, _*_, _-_, _≤_, _<_}
 use mathlib.Core.Bool.{Bool, true, false, cond, _&&_, _||_}
@@ -16,44 +16,20 @@ use Rattle.sets.specs.Sets.{Positions, count}
 use Rattle.sets.proofs.Tests.{decided, same-truth, and-left, and-right, and-both, or-cases, or-left, or-right}
 use Rattle.sets.proofs.Laws.{count-le}
 use Rattle.sets.proofs.Gather.{gather-ext, gather-none, first-in-le}
+use Rattle.grid.specs.declared.Grid.{Grid}
 use Rattle.tree.specs.Forest.{lowest}
 use Rattle.tree.proofs.Relabel.{low-le, low-root}
 use Rattle.flood.specs.Levels.{grey}
 use Rattle.flood.proofs.Counts.{equal-or-not, bit, off}
-use Rattle.flood.proofs.Tables.{count-next, counts-more}
-use Rattle.accumulators.specs.Accumulators.{nothing, single, combined, gathered}
+use Rattle.flood.proofs.Tables.{as-table, count-next, counts-more}
+use Rattle.accumulators.specs.Accumulators.{nothing, single, combined, gathered, Small}
 use Rattle.branches.specs.Branches.{owned}
 use Rattle.flood.specs.Flooding.{parent-of}
 use Rattle.parts.specs.Parts.{first-of, held-of, root-of, lowest-of, lowest-own-pixel, node-level}
-use Rattle.own_pixels.specs.OwnPixels.{Blanked, Blank, Noting, noted-at, counted-at, Owned}
+use Rattle.own_pixels.specs.OwnPixels.{Blank, Noting, noted-at, counted-at, Owned}
 use Rattle.accumulators.proofs.Accumulators.{single-small, gathered-small, bound-small, gathered-with}
 use Rattle.parts.proofs.Roots.{root-within}
-use Rattle.parts.proofs.Parts.{lent, returned, lent-long, lent-read, stored-in, filled, filled-long, filled-before, filled-inside}
-
--- parts 2, 4 and 5 blank
-pub blanked : (n a : ℕ) (ws : List ℕ) → length ws ≡ 6 * n → Blanked n a ws (filled (4 * n) (5 * n) (nothing a) (filled (3 * n) (4 * n) n (filled n (2 * n) 0 ws)))
-blanked n a ws size =
-    let x₁ : List ℕ = filled n (2 * n) 0 ws in
-    let x₂ : List ℕ = filled (3 * n) (4 * n) n x₁ in
-    let v : ℕ = nothing a in
-    let long₁ = filled-long n (2 * n) 0 ws (omega arith) (omega arith) in
-    let long₂ = filled-long (3 * n) (4 * n) n x₁ (omega arith) (omega arith) in
-    let high₂ : 4 * n ≤ length x₁ = omega arith in
-    let high₃ : 5 * n ≤ length x₂ = omega arith in
-    let before₁ = filled-before n (2 * n) 0 ws (omega arith) (omega arith) in
-    let before₂ = filled-before (3 * n) (4 * n) n x₁ (omega arith) high₂ in
-    let before₃ = filled-before (4 * n) (5 * n) v x₂ (omega arith) high₃ in
-    record {
-      words = filled-long (4 * n) (5 * n) v x₂ (omega arith) high₃ ∙ long₂ ∙ long₁;
-      parents = λ q b. before₃ q (omega arith) ∙ before₂ q (omega arith) ∙ before₁ q b;
-      zero =
-          λ q b.
-          before₃ (n + q) (omega arith)
-          ∙ before₂ (n + q) (omega arith)
-          ∙ filled-inside n (2 * n) 0 ws (omega arith) (omega arith) q (omega arith);
-      unnoted = λ r b. before₃ (3 * n + r) (omega arith) ∙ filled-inside (3 * n) (4 * n) n x₁ (omega arith) high₂ r (omega arith);
-      blank = λ r b. filled-inside (4 * n) (5 * n) v x₂ (omega arith) high₃ r (omega arith);
-    }
+use Rattle.parts.proofs.Parts.{lent, returned, lent-long, lent-read, stored-in}
 
 -- the positions below i with the label r
 abbrev pub below : (ℕ → ℕ) → ℕ → ℕ → Positions
@@ -111,7 +87,7 @@ pub record First (picture ws₀ ws : List ℕ) (x : ℕ) : Type 0 where
   pub low : first-of (length picture) ws (root-of picture ws₀ x) ≤ x
   pub own : root-of picture ws₀ (first-of (length picture) ws (root-of picture ws₀ x)) ≡ root-of picture ws₀ x
 
-pub record Owning (w a : ℕ) (picture ws₀ ws counts : List ℕ) (i : ℕ) : Type 0 where
+pub record Owning (grid : Grid) (a : ℕ) (picture ws₀ ws counts : List ℕ) (i : ℕ) : Type 0 where
   pub top : i ≤ length picture
   pub words : length ws ≡ length ws₀
   pub kept : (k : ℕ) → k < 3 * length picture → getD ws k 0 ≡ getD ws₀ k 0
@@ -121,7 +97,7 @@ pub record Owning (w a : ℕ) (picture ws₀ ws counts : List ℕ) (i : ℕ) : T
       → first-of (length picture) ws r ≡ length picture
   pub held :
       (r : ℕ) → r < length picture
-      → held-of (length picture) ws r ≡ gathered a (length picture) (single a w) (below (root-of picture ws₀) i r)
+      → held-of (length picture) ws r ≡ gathered a (length picture) (single grid a) (below (root-of picture ws₀) i r)
   pub wide : length counts ≡ 256
   pub nodes : (l : ℕ) → l < 256 → getD counts l 0 ≡ count i (λ (q : ℕ). eqb (node-level picture ws₀ q) l)
 
@@ -132,11 +108,11 @@ noted-met picture q r part counts ne = rw (ne-eqb (getD part r 0) (length pictur
 pub noted-unmet : (picture : List ℕ) (q r : ℕ) (part counts : List ℕ) → getD part r 0 ≡ length picture → (set part r q ≡ noted-at picture q r part) × (set counts (grey picture q) (getD counts (grey picture q) 0 + 1) ≡ counted-at picture q r part counts)
 noted-unmet picture q r part counts e = rw (eq-eqb (getD part r 0) (length picture) e) (refl, refl)
 
-module _ (w a : ℕ) (picture ws₀ : List ℕ) (start : Blank w a picture ws₀) where
+module _ {grid : Grid} {a : ℕ} {picture ws₀ : List ℕ} (start : Blank grid a picture ws₀) where
   abbrev n : ℕ
   n = length picture
 
-  pub owning-none : Owning w a picture ws₀ ws₀ (replicate 256 0) 0
+  pub owning-none : Owning grid a picture ws₀ ws₀ (replicate 256 0) 0
   unfolding count
   owning-none =
       record {
@@ -153,26 +129,26 @@ module _ (w a : ℕ) (picture ws₀ : List ℕ) (start : Blank w a picture ws₀
             (length picture)
             (combined a)
             (nothing a)
-            (single a w)
+            (single grid a)
             (below (root-of picture ws₀) 0 r)
             (λ q c. ap (λ (t : Bool). t && eqb (root-of picture ws₀ q) r) (le-ltb q 0 (omega arith))));
         wide = length-replicate {A = ℕ} 256 0;
         nodes = λ l b. getD-replicate 256 l 0 0 b;
       }
 
-  pub owning-small : (ws counts : List ℕ) (i r : ℕ) → Owning w a picture ws₀ ws counts i → r < length picture → held-of (length picture) ws r ≤ 16777215
+  pub owning-small : (ws counts : List ℕ) (i r : ℕ) → Owning grid a picture ws₀ ws counts i → r < length picture → Small (held-of (length picture) ws r)
   owning-small ws counts i r O b =
       rw
       (O .held r b)
       (bound-small
       a
       (length picture)
-      (gathered a (length picture) (single a w) (below (root-of picture ws₀) i r))
+      (gathered a (length picture) (single grid a) (below (root-of picture ws₀) i r))
       (start .sized .small)
-      (gathered-small a (length picture) (single a w) (below (root-of picture ws₀) i r) (λ q c. single-small a w q (start .short q c))))
+      (gathered-small a (length picture) (single grid a) (below (root-of picture ws₀) i r) (λ q c. single-small grid a q (start .short q c))))
 
   -- one pixel more, i, with the node root r: first its accumulator, then the note
-  module _ (ws counts : List ℕ) (i r : ℕ) (b : i < length picture) (O : Owning w a picture ws₀ ws counts i) (is : r ≡ root-of picture ws₀ i) where
+  module _ {ws counts : List ℕ} {i r : ℕ} (b : i < length picture) (O : Owning grid a picture ws₀ ws counts i) (is : r ≡ root-of picture ws₀ i) where
     in-range : r < length picture
     in-range = rw is (root-within picture ws₀ i b (start .within i b))
 
@@ -183,7 +159,7 @@ module _ (w a : ℕ) (picture ws₀ : List ℕ) (start : Blank w a picture ws₀
     held-place = omega (arith, in-range, O .words, start .sized .words)
 
     abbrev y : ℕ
-    y = combined a (held-of (length picture) ws r) (single a w i)
+    y = combined a (held-of (length picture) ws r) (single grid a i)
 
     abbrev ws₁ : List ℕ
     ws₁ = set ws (4 * length picture + r) y
@@ -192,14 +168,14 @@ module _ (w a : ℕ) (picture ws₀ : List ℕ) (start : Blank w a picture ws₀
     high : 5 * n ≤ length ws
     high = omega (arith, O .words, start .sized .words)
 
-    pub gather-asked : (r < length (lent (4 * n) (5 * n) ws)) × (getD (lent (4 * n) (5 * n) ws) r 0 ≤ 16777215)
+    pub gather-asked : (r < length (lent (4 * n) (5 * n) ws)) × Small (getD (lent (4 * n) (5 * n) ws) r 0)
     gather-asked = (
       rw (lent-long (4 * n) (5 * n) ws high) (omega (arith, in-range)),
       rw (lent-read (4 * n) (5 * n) ws high r (omega (arith, in-range))) (owning-small ws counts i r O in-range),
     )
 
-    pub gathered-one : (part : List ℕ) (own : ℕ) → own ≡ single a w i → part ≡ set (lent (4 * n) (5 * n) ws) r (combined a (getD (lent (4 * n) (5 * n) ws) r 0) own) → returned (4 * n) (5 * n) ws part ≡ ws₁
-    gathered-one part own e f =
+    pub gathered-one : {part : List ℕ} {own : ℕ} → own ≡ single grid a i → part ≡ set (lent (4 * n) (5 * n) ws) r (combined a (getD (lent (4 * n) (5 * n) ws) r 0) own) → returned (4 * n) (5 * n) ws part ≡ ws₁
+    gathered-one e f =
         let inside : 4 * n + r < 5 * n = omega (arith, in-range) in
         rw (f, e, lent-read (4 * n) (5 * n) ws high r inside) (stored-in (4 * n) (5 * n) ws high r y inside)
 
@@ -213,8 +189,8 @@ module _ (w a : ℕ) (picture ws₀ : List ℕ) (start : Blank w a picture ws₀
     first-same : (s : ℕ) → s < length picture → first-of (length picture) ws₁ s ≡ first-of (length picture) ws s
     first-same s c = getD-set-other ws (4 * length picture + r) (3 * length picture + s) y 0 (λ z. omega arith)
 
-    pub note-asked : (l : List ℕ) → l ≡ ws₁ → Noting picture i r (lent (3 * n) (4 * n) l) counts
-    note-asked l e =
+    pub note-asked : {l : List ℕ} → l ≡ ws₁ → Noting picture i r (lent (3 * n) (4 * n) l) counts
+    note-asked e =
         record {
           words = rw (e, lent-long (3 * n) (4 * n) ws₁ high₁) (omega arith);
           small = start .sized .small;
@@ -225,18 +201,18 @@ module _ (w a : ℕ) (picture ws₀ : List ℕ) (start : Blank w a picture ws₀
           few = omega (arith, O .nodes (grey picture i) (start .bytes i), count-le i (λ (q : ℕ). eqb (node-level picture ws₀ q) (grey picture i)));
         }
 
-    held-more : (s : ℕ) → s < length picture → held-of (length picture) ws₁ s ≡ gathered a (length picture) (single a w) (below (root-of picture ws₀) (i + 1) s)
+    held-more : (s : ℕ) → s < length picture → held-of (length picture) ws₁ s ≡ gathered a (length picture) (single grid a) (below (root-of picture ws₀) (i + 1) s)
     held-more s c =
         ⊎-elim
         (λ z.
         ap (held-of (length picture) ws₁) z
         ∙ getD-set-same ws (4 * length picture + r) y 0 held-place
-        ∙ ap (λ (k : ℕ). combined a k (single a w i)) (O .held r in-range)
+        ∙ ap (λ (k : ℕ). combined a k (single grid a i)) (O .held r in-range)
         ∙ sym
         (gathered-with
         a
         (length picture)
-        (single a w)
+        (single grid a)
         (below (root-of picture ws₀) i r)
         (below (root-of picture ws₀) (i + 1) s)
         i
@@ -255,7 +231,7 @@ module _ (w a : ℕ) (picture ws₀ : List ℕ) (start : Blank w a picture ws₀
         (length picture)
         (combined a)
         (nothing a)
-        (single a w)
+        (single grid a)
         (below (root-of picture ws₀) (i + 1) s)
         (below (root-of picture ws₀) i s)
         (λ x d. below-other (root-of picture ws₀) i s x (λ z. ne (sym z ∙ sym is)))))
@@ -356,7 +332,7 @@ module _ (w a : ℕ) (picture ws₀ : List ℕ) (start : Blank w a picture ws₀
           at
           (counts-more (node-level picture ws₀) counts i (O .wide) (omega (arith, start .bytes i)) (O .nodes) l c)
 
-      met-first : Owning w a picture ws₀ ws₂ (set counts (grey picture i) (getD counts (grey picture i) 0 + 1)) (i + 1)
+      met-first : Owning grid a picture ws₀ ws₂ (set counts (grey picture i) (getD counts (grey picture i) 0 + 1)) (i + 1)
       met-first =
           record {
             top = omega arith;
@@ -397,7 +373,7 @@ module _ (w a : ℕ) (picture ws₀ : List ℕ) (start : Blank w a picture ws₀
           ap (first-of (length picture) ws₁) z in
           record { low = omega (arith, F .low, before); own = ap (root-of picture ws₀) (sym f) ∙ F .own ∙ z }
 
-      met-again : Owning w a picture ws₀ ws₁ counts (i + 1)
+      met-again : Owning grid a picture ws₀ ws₁ counts (i + 1)
       met-again =
           record {
             top = omega arith;
@@ -416,17 +392,17 @@ module _ (w a : ℕ) (picture ws₀ : List ℕ) (start : Blank w a picture ws₀
                 omega (arith, O .nodes l c, count-next i (λ (q : ℕ). eqb (node-level picture ws₀ q) l));
           }
 
-    pub owning-more : (l part c : List ℕ) → l ≡ ws₁ → part ≡ noted-at picture i r (lent (3 * n) (4 * n) l)
-        → c ≡ counted-at picture i r (lent (3 * n) (4 * n) l) counts → Owning w a picture ws₀ (returned (3 * n) (4 * n) l part) c (i + 1)
-    owning-more l part c d e f =
+    pub owning-more : {l part c : List ℕ} → l ≡ ws₁ → part ≡ noted-at picture i r (lent (3 * n) (4 * n) l)
+        → c ≡ counted-at picture i r (lent (3 * n) (4 * n) l) counts → Owning grid a picture ws₀ (returned (3 * n) (4 * n) l part) c (i + 1)
+    owning-more d e f =
         rw (e, f, d, noted-read)
         (⊎-elim
         (λ t. rw (t, stored-in (3 * n) (4 * n) ws₁ high₁ r i (omega (arith, in-range))) (met-first t))
         (λ t.
-        rw t (subst (λ (l : List ℕ). Owning w a picture ws₀ l counts (i + 1)) (sym (put-same (3 * n) (4 * n - 3 * n) ws₁)) (met-again t)))
+        rw t (subst (λ (l : List ℕ). Owning grid a picture ws₀ l counts (i + 1)) (sym (put-same (3 * n) (4 * n - 3 * n) ws₁)) (met-again t)))
         (decided unnoted))
 
-  first-lowest : (ws counts : List ℕ) → Owning w a picture ws₀ ws counts (length picture) → (q : ℕ) → q < length picture → first-of (length picture) ws (root-of picture ws₀ q) ≡ lowest-of picture ws₀ (root-of picture ws₀ q)
+  first-lowest : (ws counts : List ℕ) → Owning grid a picture ws₀ ws counts (length picture) → (q : ℕ) → q < length picture → first-of (length picture) ws (root-of picture ws₀ q) ≡ lowest-of picture ws₀ (root-of picture ws₀ q)
   unfolding lowest
   first-lowest ws counts O q b =
       let s : Positions = λ x. eqb (root-of picture ws₀ x) (root-of picture ws₀ q) in
@@ -441,10 +417,10 @@ module _ (w a : ℕ) (picture ws₀ : List ℕ) (start : Blank w a picture ws₀
       (omega (arith, F .low))
       (eq-eqb (root-of picture ws₀ (first-of (length picture) ws (root-of picture ws₀ q))) (root-of picture ws₀ q) (F .own)))
 
-  pub owning-end : (ws counts : List ℕ) (i : ℕ) → length picture ≤ i → Owning w a picture ws₀ ws counts i → Owned w a picture ws₀ ws counts
-  owning-end ws counts i all P =
+  pub owning-end : {ws counts : List ℕ} {i : ℕ} → length picture ≤ i → Owning grid a picture ws₀ ws counts i → Owned grid a picture ws₀ ws counts
+  owning-end {ws} {counts} {i} all P =
       let z : i ≡ length picture = omega (arith, P .top) in
-      let O : Owning w a picture ws₀ ws counts (length picture) = subst (λ (k : ℕ). Owning w a picture ws₀ ws counts k) z P in
+      let O : Owning grid a picture ws₀ ws counts (length picture) = subst (λ (k : ℕ). Owning grid a picture ws₀ ws counts k) z P in
       record {
         words = O .words;
         kept = O .kept;
@@ -456,10 +432,9 @@ module _ (w a : ℕ) (picture ws₀ : List ℕ) (start : Blank w a picture ws₀
             (length picture)
             (combined a)
             (nothing a)
-            (single a w)
+            (single grid a)
             (below (root-of picture ws₀) (length picture) r)
             (owned (grey picture) (parent-of ws₀) r)
             (λ x c. ap (λ (t : Bool). t && eqb (root-of picture ws₀ x) r) (lt-ltb x (length picture) c));
-        wide = O .wide;
-        nodes = O .nodes;
+        counted = as-table (λ (l : ℕ). count (length picture) (λ (q : ℕ). eqb (node-level picture ws₀ q) l)) (O .wide) (O .nodes);
       }

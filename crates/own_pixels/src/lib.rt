@@ -2,18 +2,19 @@
 // its own pixels, both at the node's root.
 ghost use mathlib.Core.Bool.{cond};
 ghost use mathlib.Core.Path.{_≡_};
-ghost use Prim.Native.Nat.{_≤_, _<_};
+ghost use Prim.Native.Nat.{_<_};
 ghost use lib.Dec.{eqb};
 ghost use lib.ListN.{length, getD, set};
 ghost use Rattle.flood.specs.Levels.{grey};
 ghost use Rattle.flood.specs.Calls.{Sized};
-ghost use Rattle.accumulators.specs.Accumulators.{combined};
-ghost use Rattle.own_pixels.specs.OwnPixels.{Blanked, Blank, Noting, noted-at, counted-at, Owned};
+ghost use Rattle.accumulators.specs.Accumulators.{combined, Small};
+ghost use Rattle.own_pixels.specs.OwnPixels.{blanked, Blank, Noting, noted-at, counted-at, Owned};
+use grid::Grid;
 
 // Fills parts 2, 4 and 5, each lent by itself: no attribute, no own pixel noted, the accumulator of no pixel.
 pub fn blank_parts(n: usize, attribute: u32, ws: &mut [u32])
     requires { ⌜ Sized n (now ws) ⌝ }
-    ensures { λ _. ⌜ Blanked n attribute (now (ws .entry)) (now (ws .exit)) ⌝ }
+    ensures { λ _. ⌜ now (ws .exit) ≡ blanked n attribute (now (ws .entry)) ⌝ }
 {
     let none = accumulators::none(attribute);
     flood::fill(&mut ws[n..2 * n], 0);
@@ -36,8 +37,8 @@ pub fn node_root(picture: &[u8], q: usize, p: usize) -> usize
 // Adds an own pixel, whose accumulator is given, to the node whose root is r, in part 5.
 fn gather(attribute: u32, r: usize, own: u32, part: &mut [u32])
     requires { ⌜ r < length (now part) ⌝ }
-    requires { ⌜ getD (now part) r 0 ≤ 16777215 ⌝ }
-    requires { ⌜ own ≤ 16777215 ⌝ }
+    requires { ⌜ Small (getD (now part) r 0) ⌝ }
+    requires { ⌜ Small own ⌝ }
     ensures { λ _. ⌜ now (part .exit) ≡ set (now (part .entry)) r (combined attribute (getD (now (part .entry)) r 0) own) ⌝ }
 {
     let held = accumulators::combine(attribute, part[r], own);
@@ -59,16 +60,16 @@ fn note_first(picture: &[u8], q: usize, r: usize, part: &mut [u32], counts: &mut
 }
 
 // The lowest own pixel of each node, and the accumulator of its own pixels. Answers how many nodes each level has.
-pub fn own_pixels(picture: &[u8], width: usize, attribute: u32, ws: &mut [u32]) -> [usize; 256]
-    requires { ⌜ Blank width attribute (now picture) (now ws) ⌝ }
-    ensures { λ r. ⌜ Owned width attribute (now (picture .entry)) (now (ws .entry)) (now (ws .exit)) r ⌝ }
+pub fn own_pixels(picture: &[u8], grid: Grid, attribute: u32, ws: &mut [u32]) -> [usize; 256]
+    requires { ⌜ Blank grid attribute (now picture) (now ws) ⌝ }
+    ensures { λ r. ⌜ Owned grid attribute (now (picture .entry)) (now (ws .entry)) (now (ws .exit)) r ⌝ }
 {
     let n = picture.len();
     let mut counts: [usize; 256] = [0; 256];
     let mut q = 0;
     while q < n {
         let r = node_root(picture, q, ws[q] as usize);
-        let own = accumulators::one(attribute, width, q);
+        let own = accumulators::one(grid, attribute, q);
         gather(attribute, r, own, &mut ws[4 * n..5 * n]);
         note_first(picture, q, r, &mut ws[3 * n..4 * n], &mut counts);
         q += 1;

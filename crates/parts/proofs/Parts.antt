@@ -7,6 +7,7 @@ use native.Mathlib.Omega.{arith}
 use lib.ListN.{getD, length, set, take, drop, replicate, length-set, length-append, length-replicate, length-drop, getD-replicate, replicate-append-replicate, List·getD-append, drop-of-length-le}
 use lib.Seq.{getD-set-same, getD-set-other, length-take-le, getD-take, getD-drop, getD-append-add, take-at, drop-drop, drop-append-add, take-set-lt, take-set-le, drop-set-lt, drop-set-add}
 use borrow.Rule.Slice.PartMut.{midOf, putMid, mid-len, post-is, set-mid-at}
+use Rattle.parts.specs.Parts.{filled}
 
 -- the part from a up to e as it is lent, and the list with what comes back in its place
 abbrev pub lent : ℕ → ℕ → List ℕ → List ℕ
@@ -35,10 +36,6 @@ two-stored-in a e xs high i u j v l m =
     (drop-set-add a xs i u, take-set-lt (e - a) (drop a xs) i u here, drop-set-lt (e - a) (drop a xs) i u here, take-set-le a xs (a + i) u after)
     at (stored-in a e (set xs (a + i) u) (rw (length-set xs (a + i) u) high) j v m)
 
--- the list with v in the entries from a up to e
-abbrev pub filled : ℕ → ℕ → ℕ → List ℕ → List ℕ
-filled a e v xs = take a xs ++ (replicate (e - a) v ++ drop e xs)
-
 module _ (a e v : ℕ) (xs : List ℕ) (low : a ≤ e) (high : e ≤ length xs) where
   -- the part comes back filled
   pub part-filled : {ys part : List ℕ} → ys ≡ xs → part ≡ replicate (length (lent a e ys)) v → returned a e ys part ≡ filled a e v xs
@@ -63,7 +60,7 @@ module _ (a e v : ℕ) (xs : List ℕ) (low : a ≤ e) (high : e ≤ length xs) 
       ∙ getD-replicate (e - a) k v 0 here
 
 -- a part filled with the word of the part before it
-pub filled-on : (a b e v : ℕ) (xs : List ℕ) → a ≤ b → b ≤ e → e ≤ length xs → filled b e v (filled a b v xs) ≡ filled a e v xs
+filled-on : (a b e v : ℕ) (xs : List ℕ) → a ≤ b → b ≤ e → e ≤ length xs → filled b e v (filled a b v xs) ≡ filled a e v xs
 filled-on a b e v xs low on high =
     let head : List ℕ = take a xs ++ replicate (b - a) v in
     let long : length head ≡ b = simp (length-append, length-replicate) (omega (arith, length-take-le a xs (omega arith))) in

@@ -1,10 +1,10 @@
 -- The words of the workspace's parts, and what the parent words of part 1 say of nodes. Part 2 holds the accumulators and then the attributes,
 -- part 4 the lowest own pixel of each node and part 5 the accumulator of its own pixels, both at the node's root.
-use Prim.Native.Nat.{ℕ, _+_, _*_}
+use Prim.Native.Nat.{ℕ, _+_, _*_, _-_}
 use mathlib.Core.Bool.{cond}
-use mathlib.Core.List.{List}
+use mathlib.Core.List.{List, _++_}
 use lib.Dec.{eqb}
-use lib.ListN.{getD, length}
+use lib.ListN.{getD, length, take, drop, replicate}
 use Rattle.sets.specs.Sets.{Positions}
 use Rattle.tree.specs.Forest.{node-root, lowest}
 use Rattle.flood.specs.Levels.{grey}
@@ -39,3 +39,7 @@ node-level picture ws q = cond (lowest-own-pixel picture ws q) (grey picture q) 
 -- q is the root of its node
 abbrev pub roots : List ℕ → List ℕ → Positions
 roots picture ws q = eqb (root-of picture ws q) q
+
+-- the list with v in the entries from a up to e
+abbrev pub filled : ℕ → ℕ → ℕ → List ℕ → List ℕ
+filled a e v xs = take a xs ++ (replicate (e - a) v ++ drop e xs)

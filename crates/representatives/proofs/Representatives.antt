@@ -13,10 +13,11 @@ use borrow.Author.Tests.{eqb-true, eq-eqb, ne-eqb}
 use Rattle.sets.specs.Sets.{count}
 use Rattle.sets.proofs.Tests.{decided}
 use Rattle.sets.proofs.Laws.{count-le}
-use Rattle.sets.proofs.Gather.{first-in-le}
 use Rattle.opening.proofs.Levels.{cond-case}
-use Rattle.tree.specs.Forest.{node-root, lowest}
+use Rattle.tree.specs.Forest.{node-root}
 use Rattle.tree.proofs.Forest.{node-root-self}
+use Rattle.tree.proofs.Relabel.{low-le}
+use Rattle.causes.specs.Bounds.{words-a-pixel}
 use Rattle.causes.proofs.Lists.{length-two}
 use Rattle.flood.specs.Levels.{grey}
 use Rattle.flood.specs.Flooding.{parent-of, order-of, Changed}
@@ -67,7 +68,7 @@ pub record Writing (picture ws₀ ws tails : List ℕ) (nodes q : ℕ) : Type 0 
   pub list : Listing (length picture) (node-level picture ws₀) (order-of (length picture) ws) (λ (k : ℕ). getD tails k 0) q
   pub number : nodes ≡ count q (lowest-own-pixel picture ws₀)
 
-module _ (picture ws₀ starts : List ℕ) (start : Recordable picture ws₀ starts) where
+module _ {picture ws₀ starts : List ℕ} (start : Recordable picture ws₀ starts) where
   pub writing-none : Writing picture ws₀ ws₀ starts 0 0
   unfolding count
   writing-none =
@@ -90,8 +91,8 @@ module _ (picture ws₀ starts : List ℕ) (start : Recordable picture ws₀ sta
         number = refl;
       }
 
-  pub writing-end : (ws tails : List ℕ) (nodes q : ℕ) → length picture ≤ q → Writing picture ws₀ ws tails nodes q → Recorded picture ws₀ ws nodes
-  writing-end ws tails nodes q all W =
+  pub writing-end : {ws tails : List ℕ} {nodes q : ℕ} → length picture ≤ q → Writing picture ws₀ ws tails nodes q → Recorded picture ws₀ ws nodes
+  writing-end {ws} {tails} {nodes} {q} all W =
       let n : ℕ = length picture in
       let z : q ≡ n = omega (arith, W .top) in
       let L : Listing n (node-level picture ws₀) (order-of n ws) (λ (k : ℕ). getD tails k 0) n =
@@ -126,18 +127,12 @@ module _ (picture ws₀ starts : List ℕ) (start : Recordable picture ws₀ sta
       (λ e. parent-again q b)
       (λ e. rw e refl)
 
+  -- a node's lowest own pixel is at or before its root
   lowest-le : (q : ℕ) → q < length picture → lowest-of picture ws₀ (root-of picture ws₀ q) ≤ root-of picture ws₀ q
-  unfolding lowest
-  lowest-le q b =
-      first-in-le
-      (length picture)
-      (λ (x : ℕ). eqb (root-of picture ws₀ x) (root-of picture ws₀ q))
-      (root-of picture ws₀ q)
-      (root-in q b)
-      (eq-eqb (root-of picture ws₀ (root-of picture ws₀ q)) (root-of picture ws₀ q) (root-again q b))
+  lowest-le q b = rw (root-again q b) at (low-le (length picture) (grey picture) (parent-of ws₀) (root-of picture ws₀ q) (root-in q b))
 
   -- one pixel more, q
-  module _ (ws tails : List ℕ) (nodes q : ℕ) (b : q < length picture) (W : Writing picture ws₀ ws tails nodes q) where
+  module _ {ws tails : List ℕ} {nodes q : ℕ} (b : q < length picture) (W : Writing picture ws₀ ws tails nodes q) where
     abbrev r : ℕ
     r = root-of picture ws₀ q
 
@@ -209,7 +204,7 @@ module _ (picture ws₀ starts : List ℕ) (start : Recordable picture ws₀ sta
     parent-other : is-first picture q ws ≡ false → first-of (length picture) ws (root-of picture ws q) ≡ new-parent picture ws₀ q
     parent-other e = same-first ∙ new-parent-is false e
 
-    long : length ws ≡ 6 * length picture
+    long : length ws ≡ words-a-pixel * length picture
     long = W .words ∙ start .sized .words
 
     -- what follows from the words at q, where the others of parts 1 and 2 and those past part 3 stay
@@ -342,8 +337,8 @@ module _ (picture ws₀ starts : List ℕ) (start : Recordable picture ws₀ sta
           (rw (level, sym at-tail) raised))
           (sym (ap (λ (k : Bool). cond k 1 0) (sym same-is-first ∙ e)))
 
-    pub writing-more : (ws' tails' : List ℕ) (one : ℕ) → Pixel-written picture q ws tails one ws' tails' → Writing picture ws₀ ws' tails' (nodes + one) (q + 1)
-    writing-more ws' tails' one (a, (e, f)) =
+    pub writing-more : {ws' tails' : List ℕ} {one : ℕ} → Pixel-written picture q ws tails one ws' tails' → Writing picture ws₀ ws' tails' (nodes + one) (q + 1)
+    writing-more (a, (e, f)) =
         rw
         (a, e, f)
         (⊎-elim
@@ -352,8 +347,8 @@ module _ (picture ws₀ starts : List ℕ) (start : Recordable picture ws₀ sta
         (decided (is-first picture q ws)))
 
     -- there is room for one node more
-    pub number-room : (one : ℕ) → one ≡ cond (is-first picture q ws) 1 0 → nodes + one ≤ q + 1
-    number-room one f =
+    pub number-room : {one : ℕ} → one ≡ cond (is-first picture q ws) 1 0 → nodes + one ≤ q + 1
+    number-room f =
         let bit : cond (is-first picture q ws) 1 0 ≤ 1 =
         cond-case (λ (k : ℕ). k ≤ 1) (is-first picture q ws) (λ e. omega arith) (λ e. omega arith) in
         omega (

@@ -15,11 +15,11 @@ returns c = simp (eq-eqb _ _ (c .if1 .taken))
 larger-requires : tie.Need-larger-requires
 larger-requires c κs = search needs
 
-mul-result : tie.Need-mul-result
-mul-result c = search needs
-
 smaller-requires : tie.Need-smaller-requires
 smaller-requires c κs = search needs
+
+mul-result : tie.Need-mul-result
+mul-result c = search needs
 
 add-result-2 : tie.Need-add-result-2
 add-result-2 c = search needs
@@ -35,7 +35,7 @@ combine-spec =
     add-result
     returns
     larger-requires
-    mul-result
     smaller-requires
+    mul-result
     add-result-2
     returns-2)

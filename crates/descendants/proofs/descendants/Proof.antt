@@ -1,4 +1,5 @@
--- `descendants::descendants` meets its contract. Invariant: the places from i on have been taken. Assumes nothing.
+-- `descendants::descendants` meets its contract. Invariant: the nodes at the places from i on hold their attributes, and the others what is
+-- poured into them so far. Measure: the places below i. Assumes nothing.
 use Prim.Native.Nat.{_-_, _+_, _*_}
 use mathlib.Core.Path.{_≡_}
 use lib.ListN.{length, getD}
@@ -15,11 +16,16 @@ Inv-loop picture attribute nodes ws₀ n i₀ ws i = Pouring attribute picture w
 abbrev μ-loop : tie.MeasureT-loop
 μ-loop picture attribute nodes ws₀ n i₀ ws i = i
 
-pixel-is : (c : tie.After-slice-known2 Inv-loop μ-loop) → getD (c .before .before .loop .ws) (2 * length (c .before .before .before .before .before .args .picture .now) + (c .before .before .loop .i - 1)) 0 ≡ order-of (length (c .before .before .before .before .before .args .picture .now)) (c .before .before .before .before .before .args .ws .now) (c .before .before .loop .i - 1)
+-- the pixel at the last place that is not taken
+pixel-is : (c : tie.After-slice-known2 Inv-loop μ-loop)
+    → let at-loop = c .before .before in
+    let a = at-loop .before .before .before .args in
+    let n = length (a .picture .now) in
+    getD (at-loop .loop .ws) (2 * n + (at-loop .loop .i - 1)) 0 ≡ order-of n (a .ws .now) (at-loop .loop .i - 1)
 pixel-is c = c .before .before .loop .inv .rest _ (omega arith)
 
 loop-holds : tie.Need-loop-holds Inv-loop μ-loop
-loop-holds c = pouring-none _ _ _ _ (c .before .before .pre)
+loop-holds c = pouring-none (c .before .before .pre)
 
 sub-i : tie.Need-sub-i Inv-loop μ-loop
 sub-i c = search needs
@@ -37,16 +43,27 @@ slice-read-q : tie.Need-slice-read-q Inv-loop μ-loop
 slice-read-q c = omega (arith, c .before .before .loop .inv .top, c .before .before .loop .inv .words, c .before .before .before .before .before .pre .sized .words)
 
 cast-q : tie.Need-cast-q Inv-loop μ-loop
-cast-q c = omega (arith, c .slice-known2 .given (2 * length (c .before .before .before .before .before .args .picture .now) + (c .before .before .loop .i - 1)))
+cast-q c =
+    let at-loop = c .before .before in
+    omega (arith, c .slice-known2 .given (2 * length (at-loop .before .before .before .args .picture .now) + (at-loop .loop .i - 1)))
 
 mul-p : tie.Need-mul-p Inv-loop μ-loop
-mul-p c = omega (arith, within _ _ _ _ (c .before .before .before .before .before .pre) _ _ _ (omega arith) (c .before .before .loop .inv) (pixel-is c), c .before .before .before .before .before .pre .sized .small)
+mul-p c =
+    let at-loop = c .before .before in
+    let start = at-loop .before .before .before in
+    omega (arith, within (start .pre) (omega arith) (at-loop .loop .inv) (pixel-is c), start .pre .sized .small)
 
 slice-read-p : tie.Need-slice-read-p Inv-loop μ-loop
-slice-read-p c = omega (arith, within _ _ _ _ (c .before .before .before .before .before .before .pre) _ _ _ (omega arith) (c .before .before .before .loop .inv) (pixel-is (c .before)), c .before .before .before .loop .inv .words, c .before .before .before .before .before .before .pre .sized .words)
+slice-read-p c =
+    let at-loop = c .before .before .before in
+    let start = at-loop .before .before .before in
+    omega (arith, within (start .pre) (omega arith) (at-loop .loop .inv) (pixel-is (c .before)), at-loop .loop .inv .words, start .pre .sized .words)
 
 cast-p : tie.Need-cast-p Inv-loop μ-loop
-cast-p c = omega (arith, c .slice-known3 .given (getD (c .before .before .before .loop .ws) (2 * length (c .before .before .before .before .before .before .args .picture .now) + (c .before .before .before .loop .i - 1)) 0))
+cast-p c =
+    let at-loop = c .before .before .before in
+    let n = length (at-loop .before .before .before .args .picture .now) in
+    omega (arith, c .slice-known3 .given (getD (at-loop .loop .ws) (2 * n + (at-loop .loop .i - 1)) 0))
 
 mul-pour : tie.Need-mul-pour Inv-loop μ-loop
 mul-pour c = search needs
@@ -64,19 +81,24 @@ part-pour-end : tie.Need-part-pour-end Inv-loop μ-loop
 part-pour-end c = omega (arith, c .before .before .before .loop .inv .words, c .before .before .before .before .before .before .pre .sized .words)
 
 pour-requires : tie.Need-pour-requires Inv-loop μ-loop
-pour-requires c κs = pour-asked _ _ _ _ (c .before .before .before .before .before .before .before .pre) _ _ _ (omega arith) (c .before .before .before .before .loop .inv) (pixel-is (c .before .before))
+pour-requires c κs =
+    let at-loop = c .before .before .before .before in
+    pour-asked (at-loop .before .before .before .pre) (omega arith) (at-loop .loop .inv) (pixel-is (c .before .before))
 
 loop-less : tie.Need-loop-less Inv-loop μ-loop
 loop-less c = search needs
 
 loop-again : tie.Need-loop-again Inv-loop μ-loop
-loop-again c = pouring-more _ _ _ _ (c .before .before .before .before .before .before .before .before .before .before .pre) _ _ _ (omega arith) (c .before .before .before .before .before .before .before .loop .inv) (pixel-is (c .before .before .before .before .before)) _ (c .before .before .pour .ensures)
+loop-again c =
+    let at-pixel = c .before .before .before .before .before in
+    let at-loop = at-pixel .before .before in
+    pouring-more (at-loop .before .before .before .pre) (omega arith) (at-loop .loop .inv) (pixel-is at-pixel) (c .before .before .pour .ensures)
 
 same-length : tie.Need-same-length Inv-loop μ-loop
 same-length c = omega (arith, c .before .loop .inv .words)
 
 returns : tie.Need-returns Inv-loop μ-loop
-returns c = pouring-end _ _ _ _ (c .before .before .before .before .pre) _ _ (c .loop-test .left) (c .before .loop .inv)
+returns c = pouring-end (c .before .before .before .before .pre) (c .loop-test .left) (c .before .loop .inv)
 
 pub descendants-spec : {M : Type 1} → statement M
 descendants-spec =

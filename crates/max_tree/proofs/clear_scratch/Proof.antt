@@ -96,18 +96,18 @@ same-length c = search needs
 
 returns : tie.Need-returns
 returns c =
-    let start = c .before .before .before .before .before .before .before .before .before .before .before .before .before .before .before .before .before in
+    let at-four = c .before .before in
+    let at-three = at-four .before .before .before .before in
+    let at-two = at-three .before .before .before .before in
+    let at-one = at-two .before .before .before .before in
+    let start = at-one .before .before .before in
     let n = start .args .n in
     let ws = start .args .workspace .now in
-    let one = c .before .before .before .before .before .before .before .before .before .before .before .before .before .before .fill in
-    let two = c .before .before .before .before .before .before .before .before .before .before .fill2 in
-    let three = c .before .before .before .before .before .before .fill3 in
-    let four = c .before .before .fill4 in
     let size = start .pre .words in
-    let f₁ = part-filled (2 * n) (3 * n) 0 ws (omega arith) (omega arith) refl (one .ensures) in
-    let f₂ = filled-next (2 * n) (3 * n) (4 * n) 0 ws (omega arith) (omega arith) (omega arith) f₁ (two .ensures) in
-    let f₃ = filled-next (2 * n) (4 * n) (5 * n) 0 ws (omega arith) (omega arith) (omega arith) f₂ (three .ensures) in
-    filled-next (2 * n) (5 * n) (6 * n) 0 ws (omega arith) (omega arith) (omega arith) f₃ (four .ensures)
+    let f₁ = part-filled (2 * n) (3 * n) 0 ws (omega arith) (omega arith) refl (at-one .fill .ensures) in
+    let f₂ = filled-next (2 * n) (3 * n) (4 * n) 0 ws (omega arith) (omega arith) (omega arith) f₁ (at-two .fill2 .ensures) in
+    let f₃ = filled-next (2 * n) (4 * n) (5 * n) 0 ws (omega arith) (omega arith) (omega arith) f₂ (at-three .fill3 .ensures) in
+    filled-next (2 * n) (5 * n) (6 * n) 0 ws (omega arith) (omega arith) (omega arith) f₃ (at-four .fill4 .ensures)
     ∙ filled-to-end (2 * n) (6 * n) (4 * n) 0 ws size (omega arith)
 
 pub clear-scratch-spec : {M : Type 1} → statement M

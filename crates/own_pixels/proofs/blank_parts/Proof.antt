@@ -1,9 +1,10 @@
 -- `own_pixels::blank_parts` meets its contract. Assumes nothing.
 use Prim.Native.Nat.{_*_}
-use mathlib.Core.Path.{refl}
+use mathlib.Core.Path.{refl, _∙_}
 use native.Mathlib.Omega.{arith}
-use Rattle.parts.proofs.Parts.{filled, filled-long, part-filled}
-use Rattle.own_pixels.proofs.OwnPixels.{blanked}
+use Rattle.parts.specs.Parts.{filled}
+use Rattle.parts.proofs.Parts.{filled-long, part-filled}
+use Rattle.own_pixels.specs.OwnPixels.{blanked}
 use borrow.Author.Needs.{needs}
 use Rattle.own_pixels.proofs.blank_parts.Statement.{statement}
 use Rattle.own_pixels.proofs.blank_parts.Tie as tie
@@ -78,22 +79,23 @@ same-length : tie.Need-same-length
 same-length c = search needs
 
 returns : tie.Need-returns
+unfolding blanked
 returns c =
-    let start = c .before .before .before .before .before .before .before .before .before .before .before .before .before .before in
+    let at-three = c .before .before in
+    let at-two = at-three .before .before .before .before in
+    let at-one = at-two .before .before .before .before in
+    let none = at-one .before .before .none in
+    let start = at-one .before .before .before .before in
     let n = start .args .n in
     let ws = start .args .ws .now in
-    let none = c .before .before .before .before .before .before .before .before .before .before .before .before .none in
-    let one = c .before .before .before .before .before .before .before .before .before .before .fill in
-    let two = c .before .before .before .before .before .before .fill2 in
-    let three = c .before .before .fill3 in
     let size = start .pre .words in
     let x₁ = filled n (2 * n) 0 ws in
     let long₁ = filled-long n (2 * n) 0 ws (omega arith) (omega arith) in
     let long₂ = filled-long (3 * n) (4 * n) n x₁ (omega arith) (omega arith) in
-    let f₁ = part-filled n (2 * n) 0 ws (omega arith) (omega arith) refl (one .ensures) in
-    let f₂ = part-filled (3 * n) (4 * n) n x₁ (omega arith) (omega arith) f₁ (two .ensures) in
-    let f₃ = part-filled (4 * n) (5 * n) (none .result) (filled (3 * n) (4 * n) n x₁) (omega arith) (omega arith) f₂ (three .ensures) in
-    rw (f₃, none .ensures) (blanked n (start .args .attribute) ws size)
+    let f₁ = part-filled n (2 * n) 0 ws (omega arith) (omega arith) refl (at-one .fill .ensures) in
+    let f₂ = part-filled (3 * n) (4 * n) n x₁ (omega arith) (omega arith) f₁ (at-two .fill2 .ensures) in
+    let f₃ = part-filled (4 * n) (5 * n) (none .result) (filled (3 * n) (4 * n) n x₁) (omega arith) (omega arith) f₂ (at-three .fill3 .ensures) in
+    f₃ ∙ rw (none .ensures) refl
 
 pub blank-parts-spec : {M : Type 1} → statement M
 blank-parts-spec =

@@ -1,5 +1,6 @@
--- `own_pixels::own_pixels` meets its contract. Invariant: the pixels below q have been taken. Assumes nothing.
-use Prim.Native.Nat.{_*_, _-_, _+_, _<_}
+-- `own_pixels::own_pixels` meets its contract. Invariant: of the pixels below q each has its node's first own pixel noted and is in its node's
+-- accumulator, and the nodes met are counted. Measure: the pixels from q on. Assumes nothing.
+use Prim.Native.Nat.{_*_, _-_, _+_}
 use mathlib.Core.Path.{_≡_}
 use native.Mathlib.Omega.{arith}
 use lib.ListN.{length, getD, set}
@@ -7,35 +8,45 @@ use Rattle.accumulators.specs.Accumulators.{single, combined}
 use Rattle.parts.specs.Parts.{root-of}
 use Rattle.accumulators.proofs.Accumulators.{single-small, bound-one}
 use Rattle.parts.proofs.Parts.{returned}
-use Rattle.parts.proofs.Roots.{root-read, root-within}
+use Rattle.parts.proofs.Roots.{root-read}
 use Rattle.own_pixels.proofs.OwnPixels.{Owning, owning-none, gather-asked, gathered-one, note-asked, owning-more, owning-end}
 use borrow.Author.Needs.{needs}
 use Rattle.own_pixels.proofs.own_pixels.Statement.{statement}
 use Rattle.own_pixels.proofs.own_pixels.Tie as tie
 
 abbrev Inv-loop : tie.InvT-loop
-Inv-loop picture width attribute ws₀ n counts₀ q₀ ws counts q = Owning width attribute picture ws₀ ws counts q
+Inv-loop picture grid attribute ws₀ n counts₀ q₀ ws counts q = Owning grid attribute picture ws₀ ws counts q
 
 abbrev μ-loop : tie.MeasureT-loop
-μ-loop picture width attribute ws₀ n counts₀ q₀ ws counts q = length picture - q
+μ-loop picture grid attribute ws₀ n counts₀ q₀ ws counts q = length picture - q
 
-root-is : (c : tie.After-node-root Inv-loop μ-loop) → c .node-root .result ≡ root-of (c .before .before .before .before .before .before .args .picture .now) (c .before .before .before .before .before .before .args .ws .now) (c .before .before .before .loop .q)
+-- the node root of the pixel
+root-is : (c : tie.After-node-root Inv-loop μ-loop)
+    → let at-loop = c .before .before .before in
+    let a = at-loop .before .before .before .args in
+    c .node-root .result ≡ root-of (a .picture .now) (a .ws .now) (at-loop .loop .q)
 root-is c =
     let at = c .before .before .before .loop in
     let a = c .before .before .before .before .before .before .args in
     root-read (a .picture .now) (at .ws) (a .ws .now) (at .q) (c .node-root .result) (at .inv .kept (at .q) (omega (arith, c .before .before .loop-test .taken))) (c .node-root .ensures)
 
-root-below : (c : tie.After-node-root Inv-loop μ-loop) → c .node-root .result < length (c .before .before .before .before .before .before .args .picture .now)
-root-below c =
-    let b = c .before .before .loop-test .taken in
-    rw (root-is c) (root-within (c .before .before .before .before .before .before .args .picture .now) (c .before .before .before .before .before .before .args .ws .now) _ b (c .before .before .before .before .before .before .pre .within _ b))
-
-gathered : (c : tie.After-gather Inv-loop μ-loop) → returned (4 * length (c .before .before .before .before .before .before .before .before .before .args .picture .now)) (5 * length (c .before .before .before .before .before .before .before .before .before .args .picture .now)) (c .before .before .before .before .before .before .loop .ws) (c .gather .last .1 .1 .1 .0) ≡ set (c .before .before .before .before .before .before .loop .ws) (4 * length (c .before .before .before .before .before .before .before .before .before .args .picture .now) + c .before .before .before .node-root .result) (combined (c .before .before .before .before .before .before .before .before .before .args .attribute) (getD (c .before .before .before .before .before .before .loop .ws) (4 * length (c .before .before .before .before .before .before .before .before .before .args .picture .now) + c .before .before .before .node-root .result) 0) (single (c .before .before .before .before .before .before .before .before .before .args .attribute) (c .before .before .before .before .before .before .before .before .before .args .width) (c .before .before .before .before .before .before .loop .q)))
+-- part 5 comes back with the pixel in its node's accumulator
+gathered : (c : tie.After-gather Inv-loop μ-loop)
+    → let at-root = c .before .before .before in
+    let at-loop = at-root .before .before .before in
+    let a = at-loop .before .before .before .args in
+    let n = length (a .picture .now) in
+    let ws = at-loop .loop .ws in
+    let r = at-root .node-root .result in
+    returned (4 * n) (5 * n) ws (c .gather .last .1 .1 .1 .0)
+    ≡ set ws (4 * n + r) (combined (a .attribute) (getD ws (4 * n + r) 0) (single (a .grid) (a .attribute) (at-loop .loop .q)))
 gathered c =
-    gathered-one _ _ _ _ (c .before .before .before .before .before .before .before .before .before .pre) (c .before .before .before .before .before .before .loop .ws) (c .before .before .before .before .before .before .loop .counts) (c .before .before .before .before .before .before .loop .q) (c .before .before .before .node-root .result) (c .before .before .before .before .before .loop-test .taken) (c .before .before .before .before .before .before .loop .inv) (root-is (c .before .before .before)) _ _ (c .before .before .one .ensures) (c .gather .ensures)
+    let at-root = c .before .before .before in
+    let at-loop = at-root .before .before .before in
+    gathered-one (at-loop .before .before .before .pre) (at-root .before .before .loop-test .taken) (at-loop .loop .inv) (root-is at-root) (c .before .before .one .ensures) (c .gather .ensures)
 
 loop-holds : tie.Need-loop-holds Inv-loop μ-loop
-loop-holds c = owning-none _ _ _ _ (c .before .before .pre)
+loop-holds c = owning-none (c .before .before .pre)
 
 mul-node-root : tie.Need-mul-node-root Inv-loop μ-loop
 mul-node-root c = omega (arith, c .loop-test .taken, c .before .before .before .before .pre .sized .small)
@@ -52,7 +63,9 @@ node-root-requires c κs =
     (b, rw (c .before .before .loop .inv .kept (c .before .before .loop .q) (omega arith)) (c .before .before .before .before .before .pre .within (c .before .before .loop .q) b))
 
 one-requires : tie.Need-one-requires Inv-loop μ-loop
-one-requires c κs = (c .before .before .before .before .before .before .pre .columns, c .before .before .before .before .before .before .pre .short _ (c .before .before .loop-test .taken))
+one-requires c κs =
+    let pre = c .before .before .before .before .before .before .pre in
+    (pre .wide, pre .short _ (c .before .before .loop-test .taken))
 
 mul-gather : tie.Need-mul-gather Inv-loop μ-loop
 mul-gather c = search needs
@@ -74,10 +87,13 @@ part-gather-end c = omega (arith, c .before .before .before .before .loop .inv .
 
 gather-requires : tie.Need-gather-requires Inv-loop μ-loop
 gather-requires c κs =
-    let asked = gather-asked _ _ _ _ (c .before .before .before .before .before .before .before .before .pre) (c .before .before .before .before .before .loop .ws) (c .before .before .before .before .before .loop .counts) (c .before .before .before .before .before .loop .q) (c .before .before .node-root .result) (c .before .before .before .before .loop-test .taken) (c .before .before .before .before .before .loop .inv) (root-is (c .before .before)) in (
-      asked .0,
-      (asked .1, rw (c .before .one .ensures) (bound-one (c .before .before .before .before .before .before .before .before .args .attribute) _ (single-small _ _ _ (c .before .before .before .before .before .before .before .before .pre .short _ (c .before .before .before .before .loop-test .taken))))),
-    )
+    let at-root = c .before .before in
+    let at-loop = at-root .before .before .before in
+    let start = at-loop .before .before .before in
+    let below = at-root .before .before .loop-test .taken in
+    let asked = gather-asked (start .pre) below (at-loop .loop .inv) (root-is at-root) in
+    let one = single-small (start .args .grid) (start .args .attribute) _ (start .pre .short _ below) in
+    (asked .0, (asked .1, rw (c .before .one .ensures) (bound-one (start .args .attribute) _ one)))
 
 mul-note-first : tie.Need-mul-note-first Inv-loop μ-loop
 mul-note-first c = search needs
@@ -95,25 +111,40 @@ part-note-first-start : tie.Need-part-note-first-start Inv-loop μ-loop
 part-note-first-start c = search needs
 
 part-note-first-end : tie.Need-part-note-first-end Inv-loop μ-loop
-part-note-first-end c = omega (arith, c .before .before .before .before .before .before .before .before .loop .inv .words, c .before .before .before .before .before .before .before .before .before .before .before .pre .sized .words)
+part-note-first-end c =
+    let at-loop = c .before .before .before .before .before .before .before .before in
+    omega (arith, at-loop .loop .inv .words, at-loop .before .before .before .pre .sized .words)
 
 note-first-requires : tie.Need-note-first-requires Inv-loop μ-loop
-note-first-requires c κs = note-asked _ _ _ _ (c .before .before .before .before .before .before .before .before .before .before .before .before .before .pre) (c .before .before .before .before .before .before .before .before .before .before .loop .ws) (c .before .before .before .before .before .before .before .before .before .before .loop .counts) (c .before .before .before .before .before .before .before .before .before .before .loop .q) (c .before .before .before .before .before .before .before .node-root .result) (c .before .before .before .before .before .before .before .before .before .loop-test .taken) (c .before .before .before .before .before .before .before .before .before .before .loop .inv) (root-is (c .before .before .before .before .before .before .before)) _ (gathered (c .before .before .before .before))
+note-first-requires c κs =
+    let at-gather = c .before .before .before .before in
+    let at-root = at-gather .before .before .before in
+    let at-loop = at-root .before .before .before in
+    note-asked (at-loop .before .before .before .pre) (at-root .before .before .loop-test .taken) (at-loop .loop .inv) (root-is at-root) (gathered at-gather)
 
 add-q : tie.Need-add-q Inv-loop μ-loop
-add-q c = omega (arith, c .before .before .before .before .before .before .before .before .before .before .before .before .loop-test .taken, c .before .before .before .before .before .before .before .before .before .before .before .before .before .before .before .before .pre .sized .small)
+add-q c =
+    let at-test = c .before .before .before .before .before .before .before .before .before .before .before .before in
+    omega (arith, at-test .loop-test .taken, at-test .before .before .before .before .pre .sized .small)
 
 loop-less : tie.Need-loop-less Inv-loop μ-loop
-loop-less c = omega (arith, c .before .before .before .before .before .before .before .before .before .before .before .before .loop-test .taken)
+loop-less c =
+    let at-test = c .before .before .before .before .before .before .before .before .before .before .before .before in
+    omega (arith, at-test .loop-test .taken)
 
 loop-again : tie.Need-loop-again Inv-loop μ-loop
-loop-again c = owning-more _ _ _ _ (c .before .before .before .before .before .before .before .before .before .before .before .before .before .before .before .before .pre) (c .before .before .before .before .before .before .before .before .before .before .before .before .before .loop .ws) (c .before .before .before .before .before .before .before .before .before .before .before .before .before .loop .counts) (c .before .before .before .before .before .before .before .before .before .before .before .before .before .loop .q) (c .before .before .before .before .before .before .before .before .before .before .node-root .result) (c .before .before .before .before .before .before .before .before .before .before .before .before .loop-test .taken) (c .before .before .before .before .before .before .before .before .before .before .before .before .before .loop .inv) (root-is (c .before .before .before .before .before .before .before .before .before .before)) _ _ _ (gathered (c .before .before .before .before .before .before .before)) (c .before .before .note-first .ensures .0) (c .before .before .note-first .ensures .1)
+loop-again c =
+    let at-gather = c .before .before .before .before .before .before .before in
+    let at-root = at-gather .before .before .before in
+    let at-loop = at-root .before .before .before in
+    let noted = c .before .before .note-first .ensures in
+    owning-more (at-loop .before .before .before .pre) (at-root .before .before .loop-test .taken) (at-loop .loop .inv) (root-is at-root) (gathered at-gather) (noted .0) (noted .1)
 
 same-length : tie.Need-same-length Inv-loop μ-loop
 same-length c = c .before .loop .inv .words
 
 returns : tie.Need-returns Inv-loop μ-loop
-returns c = owning-end _ _ _ _ (c .before .before .before .before .pre) _ _ _ (c .loop-test .left) (c .before .loop .inv)
+returns c = owning-end (c .before .before .before .before .pre) (c .loop-test .left) (c .before .loop .inv)
 
 pub own-pixels-spec : {M : Type 1} → statement M
 own-pixels-spec =

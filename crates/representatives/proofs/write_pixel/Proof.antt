@@ -14,19 +14,35 @@ use borrow.Author.Needs.{needs}
 use Rattle.representatives.proofs.write_pixel.Statement.{statement}
 use Rattle.representatives.proofs.write_pixel.Tie as tie
 
-root-is : (c : tie.After-node-root) → c .node-root .result ≡ root-of (c .before .before .before .before .args .picture .now) (c .before .before .before .before .args .ws .now) (c .before .before .before .before .args .q)
-root-is c = let a = c .before .before .before .before .args in root-read (a .picture .now) (a .ws .now) (a .ws .now) (a .q) (c .node-root .result) refl (c .node-root .ensures)
+-- the node root of the pixel
+root-is : (c : tie.After-node-root)
+    → let a = c .before .before .before .before .args in c .node-root .result ≡ root-of (a .picture .now) (a .ws .now) (a .q)
+root-is c =
+    let a = c .before .before .before .before .args in
+    root-read (a .picture .now) (a .ws .now) (a .ws .now) (a .q) (c .node-root .result) refl (c .node-root .ensures)
 
 root-below : (c : tie.After-node-root) → c .node-root .result < length (c .before .before .before .before .args .picture .now)
-root-below c = rw (root-is c) (root-within (c .before .before .before .before .args .picture .now) (c .before .before .before .before .args .ws .now) (c .before .before .before .before .args .q) (c .before .before .before .before .pre .within) (c .before .before .before .before .pre .parent))
+root-below c =
+    let start = c .before .before .before .before in
+    rw (root-is c) (root-within (start .args .picture .now) (start .args .ws .now) (start .args .q) (start .pre .within) (start .pre .parent))
 
-first : (c : tie.Else1) → is-first (c .before .before .before .before .before .before .args .picture .now) (c .before .before .before .before .before .before .args .q) (c .before .before .before .before .before .before .args .ws .now) ≡ true
-first c = first-is (c .before .before .before .before .before .before .args .picture .now) (c .before .before .before .before .before .before .args .q) (c .before .before .before .before .before .before .args .ws .now) (c .before .before .before .before .before .before .args .tails .now) (c .before .before .node-root .result) (root-is (c .before .before)) (c .if1 .left)
+-- it is a representative
+first : (c : tie.Else1)
+    → let a = c .before .before .before .before .before .before .args in is-first (a .picture .now) (a .q) (a .ws .now) ≡ true
+first c =
+    let at-root = c .before .before in
+    let a = at-root .before .before .before .before .args in
+    first-is (a .picture .now) (a .q) (a .ws .now) (a .tails .now) (at-root .node-root .result) (root-is at-root) (c .if1 .left)
 
-up-below : (c : tie.Else1) → parent-of (c .before .before .before .before .before .before .args .ws .now) (c .before .before .node-root .result) < length (c .before .before .before .before .before .before .args .picture .now)
+-- so the word of its root is a pixel, and there is room for it in the list
+up-below : (c : tie.Else1)
+    → let a = c .before .before .before .before .before .before .args in
+    parent-of (a .ws .now) (c .before .before .node-root .result) < length (a .picture .now)
 up-below c = rw (root-is (c .before .before)) (c .before .before .before .before .before .before .pre .up (first c))
 
-tail-room : (c : tie.Else1) → getD (c .before .before .before .before .before .before .args .tails .now) (grey (c .before .before .before .before .before .before .args .picture .now) (c .before .before .before .before .before .before .args .q)) 0 < length (c .before .before .before .before .before .before .args .picture .now)
+tail-room : (c : tie.Else1)
+    → let a = c .before .before .before .before .before .before .args in
+    getD (a .tails .now) (grey (a .picture .now) (a .q)) 0 < length (a .picture .now)
 tail-room c = c .before .before .before .before .before .before .pre .room (first c)
 
 mul-node-root : tie.Need-mul-node-root
@@ -66,7 +82,10 @@ same-length : tie.Need-same-length
 same-length c = search needs
 
 returns : tie.Need-returns
-returns c = written-other (c .before .before .before .before .before .before .args .picture .now) (c .before .before .before .before .before .before .args .q) (c .before .before .before .before .before .before .args .ws .now) (c .before .before .before .before .before .before .args .tails .now) (c .before .before .node-root .result) (root-is (c .before .before)) (c .if1 .taken)
+returns c =
+    let at-root = c .before .before in
+    let a = at-root .before .before .before .before .args in
+    written-other (a .picture .now) (a .q) (a .ws .now) (a .tails .now) (at-root .node-root .result) (root-is at-root) (c .if1 .taken)
 
 mul-p : tie.Need-mul-p
 mul-p c = omega (arith, root-below (c .before .before), c .before .before .before .before .before .before .pre .sized .small)
@@ -126,7 +145,10 @@ mul-ws-3 : tie.Need-mul-ws-3
 mul-ws-3 c = search needs
 
 slice-write-ws-3 : tie.Need-slice-write-ws-3
-slice-write-ws-3 c = simp length-set (omega (arith, c .before .before .before .before .before .before .before .before .before .before .before .pre .sized .words, c .before .before .before .before .before .before .before .before .before .before .before .pre .within))
+slice-write-ws-3 c =
+    let at-else = c .before .before .before .before .before in
+    let start = at-else .before .before .before .before .before .before in
+    simp length-set (omega (arith, start .pre .sized .words, start .pre .within))
 
 cast-ws : tie.Need-cast-ws
 cast-ws c = search needs
@@ -135,16 +157,24 @@ mul-ws-4 : tie.Need-mul-ws-4
 mul-ws-4 c = search needs
 
 add-ws-2 : tie.Need-add-ws-2
-add-ws-2 c = omega (arith, tail-room (c .before .before .before .before .before), c .before .before .before .before .before .before .before .before .before .before .before .pre .sized .small)
+add-ws-2 c =
+    let at-else = c .before .before .before .before .before in
+    omega (arith, tail-room at-else, at-else .before .before .before .before .before .before .pre .sized .small)
 
 mul-ws-5 : tie.Need-mul-ws-5
-mul-ws-5 c = omega (arith, tail-room (c .before .before .before .before .before), c .before .before .before .before .before .before .before .before .before .before .before .pre .sized .small)
+mul-ws-5 c =
+    let at-else = c .before .before .before .before .before in
+    omega (arith, tail-room at-else, at-else .before .before .before .before .before .before .pre .sized .small)
 
 slice-write-ws-4 : tie.Need-slice-write-ws-4
-slice-write-ws-4 c = simp length-set (omega (arith, tail-room (c .before .before .before .before .before), c .before .before .before .before .before .before .before .before .before .before .before .pre .sized .words))
+slice-write-ws-4 c =
+    let at-else = c .before .before .before .before .before in
+    simp length-set (omega (arith, tail-room at-else, at-else .before .before .before .before .before .before .pre .sized .words))
 
 add-tails : tie.Need-add-tails
-add-tails c = omega (arith, tail-room (c .before .before .before .before .before), c .before .before .before .before .before .before .before .before .before .before .before .pre .sized .small)
+add-tails c =
+    let at-else = c .before .before .before .before .before in
+    omega (arith, tail-room at-else, at-else .before .before .before .before .before .before .pre .sized .small)
 
 mul-tails : tie.Need-mul-tails
 mul-tails c = search needs
@@ -156,7 +186,11 @@ same-length-2 : tie.Need-same-length-2
 same-length-2 c = search needs
 
 returns-2 : tie.Need-returns-2
-returns-2 c = written-first (c .before .before .before .before .before .before .before .before .before .before .before .args .picture .now) (c .before .before .before .before .before .before .before .before .before .before .before .args .q) (c .before .before .before .before .before .before .before .before .before .before .before .args .ws .now) (c .before .before .before .before .before .before .before .before .before .before .before .args .tails .now) (c .before .before .before .before .before .before .before .node-root .result) (root-is (c .before .before .before .before .before .before .before)) (c .before .before .before .before .before .if1 .left)
+returns-2 c =
+    let at-else = c .before .before .before .before .before in
+    let at-root = at-else .before .before in
+    let a = at-root .before .before .before .before .args in
+    written-first (a .picture .now) (a .q) (a .ws .now) (a .tails .now) (at-root .node-root .result) (root-is at-root) (at-else .if1 .left)
 
 pub write-pixel-spec : {M : Type 1} → statement M
 write-pixel-spec =

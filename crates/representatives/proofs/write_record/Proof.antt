@@ -1,4 +1,5 @@
--- `representatives::write_record` meets its contract. Invariant: the pixels below q are written. Assumes nothing.
+-- `representatives::write_record` meets its contract. Invariant: the words of the pixels below q are written, those from q on are as they were,
+-- and the representatives below q stand at the ends of their levels' runs and are counted. Measure: the pixels from q on. Assumes nothing.
 use Prim.Native.Nat.{_-_}
 use native.Mathlib.Omega.{arith}
 use lib.ListN.{length}
@@ -13,33 +14,42 @@ abbrev μ-loop : tie.MeasureT-loop
 μ-loop picture ws₀ n tails₀ nodes₀ q₀ ws tails nodes q = length picture - q
 
 loop-holds : tie.Need-loop-holds Inv-loop μ-loop
-loop-holds c = writing-none _ _ _ (c .before .before .pre)
+loop-holds c = writing-none (c .before .before .pre)
 
 write-pixel-requires : tie.Need-write-pixel-requires Inv-loop μ-loop
-write-pixel-requires c κs = write-asked _ _ _ (c .before .before .before .before .before .before .pre) _ _ _ _ (c .before .before .loop-test .taken) (c .before .before .before .loop .inv)
+write-pixel-requires c κs =
+    let at-loop = c .before .before .before in
+    write-asked (at-loop .before .before .before .pre) (c .before .before .loop-test .taken) (at-loop .loop .inv)
 
 add-nodes : tie.Need-add-nodes Inv-loop μ-loop
 add-nodes c =
+    let at-test = c .before .before .before .before .before in
+    let start = at-test .before .before .before .before in
     omega (
       arith,
-      number-room _ _ _ (c .before .before .before .before .before .before .before .before .before .pre) _ _ _ _ (c .before .before .before .before .before .loop-test .taken) (c .before .before .before .before .before .before .loop .inv) _ (c .before .before .write-pixel .ensures .0),
-      c .before .before .before .before .before .before .before .before .before .pre .sized .small,
+      number-room (start .pre) (at-test .loop-test .taken) (at-test .before .loop .inv) (c .before .before .write-pixel .ensures .0),
+      start .pre .sized .small,
     )
 
 add-q : tie.Need-add-q Inv-loop μ-loop
-add-q c = omega (arith, c .before .before .before .before .before .loop-test .taken, c .before .before .before .before .before .before .before .before .before .pre .sized .small)
+add-q c =
+    let at-test = c .before .before .before .before .before in
+    omega (arith, at-test .loop-test .taken, at-test .before .before .before .before .pre .sized .small)
 
 loop-less : tie.Need-loop-less Inv-loop μ-loop
 loop-less c = omega (arith, c .before .before .before .before .before .loop-test .taken)
 
 loop-again : tie.Need-loop-again Inv-loop μ-loop
-loop-again c = writing-more _ _ _ (c .before .before .before .before .before .before .before .before .before .pre) _ _ _ _ (c .before .before .before .before .before .loop-test .taken) (c .before .before .before .before .before .before .loop .inv) _ _ _ (c .before .before .write-pixel .ensures)
+loop-again c =
+    let at-test = c .before .before .before .before .before in
+    let start = at-test .before .before .before .before in
+    writing-more (start .pre) (at-test .loop-test .taken) (at-test .before .loop .inv) (c .before .before .write-pixel .ensures)
 
 same-length : tie.Need-same-length Inv-loop μ-loop
 same-length c = c .before .loop .inv .words
 
 returns : tie.Need-returns Inv-loop μ-loop
-returns c = writing-end _ _ _ (c .before .before .before .before .pre) _ _ _ _ (c .loop-test .left) (c .before .loop .inv)
+returns c = writing-end (c .before .before .before .before .pre) (c .loop-test .left) (c .before .loop .inv)
 
 pub write-record-spec : {M : Type 1} → statement M
 write-record-spec =
