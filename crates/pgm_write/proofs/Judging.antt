@@ -1,6 +1,6 @@
 -- How the tests of the writer decide its answer, and what an accepted picture gives. Assumes nothing.
 use Prim.Native.Nat.{ℕ, _*_, _^_, _≤_, _<_}
-use mathlib.Core.Path.{_≡_, sym, _∙_, ap}
+use mathlib.Core.Path.{_≡_, refl, sym, _∙_, ap}
 use mathlib.Core.Bool.{Bool, true, false}
 use mathlib.Core.List.{List, _++_}
 use native.Mathlib.Omega.{arith}
@@ -16,7 +16,7 @@ use Rattle.causes.proofs.Refusing.{must-passed}
 use Rattle.causes.proofs.Laws.{both-true, bounded}
 use Rattle.pgm_values.specs.Values.{largest-maximum, maximum-fits, all-at-most}
 use Rattle.pgm_header.specs.Header.{most-digits}
-use Rattle.pgm_write.specs.Write.{pgm-file, write-answer, buffer-after}
+use Rattle.pgm_write.specs.Write.{pgm-file, write-answer, written-numbers, buffer-after}
 use Rattle.pgm_write.specs.declared.Written.{Written}
 use Rattle.pgm_write.specs.declared.Written.the-variants.{Bytes, Refused}
 use Rattle.pgm_write.proofs.Files.{file-first}
@@ -108,14 +108,18 @@ writable-is picture width height maximum room total e =
       total-right = cc (f .1);
     }
 
-module _ (picture : List ℕ) (width height maximum : ℕ) (buffer : List ℕ) where
-  pub buffer-written : (total : ℕ) → write-answer picture width height maximum (length buffer) ≡ Bytes total → sets buffer 0 (pgm-file picture width height maximum) ≡ buffer-after picture width height maximum buffer
+-- what a call says, from what it judged: r is the judgement, and the buffer is written only where it counts bytes
+module _ (picture : List ℕ) (width height maximum : ℕ) (buffer : List ℕ) (r : Written) (judged : r ≡ write-answer picture width height maximum (length buffer)) where
+  pub call-written : (total : ℕ) (after : List ℕ) → r ≡ Bytes total → after ≡ sets buffer 0 (pgm-file picture width height maximum) → (written-numbers (Bytes total) ≡ written-numbers (write-answer picture width height maximum (length buffer))) × (after ≡ buffer-after picture width height maximum buffer)
   unfolding buffer-after
-  buffer-written total e =
+  call-written total after is stored =
+      let e : write-answer picture width height maximum (length buffer) ≡ Bytes total = sym judged ∙ is in
       let w = writable-is picture width height maximum (length buffer) total e in
-      rw e (file-first (pgm-file picture width height maximum) buffer (w .room-right)
-      ∙ ap (λ (k : ℕ). pgm-file picture width height maximum ++ drop k buffer) (sym (w .total-right)))
+      let kept = ap (λ (k : ℕ). pgm-file picture width height maximum ++ drop k buffer) (sym (w .total-right)) in
+      rw e (refl, stored ∙ file-first (pgm-file picture width height maximum) buffer (w .room-right) ∙ kept)
 
-  pub buffer-kept : (cause : Cause) → write-answer picture width height maximum (length buffer) ≡ Refused cause → buffer ≡ buffer-after picture width height maximum buffer
+  pub call-refused : (cause : Cause) → r ≡ Refused cause → (written-numbers (Refused cause) ≡ written-numbers (write-answer picture width height maximum (length buffer))) × (buffer ≡ buffer-after picture width height maximum buffer)
   unfolding buffer-after
-  buffer-kept cause e = rw e
+  call-refused cause is =
+      let e : write-answer picture width height maximum (length buffer) ≡ Refused cause = sym judged ∙ is in
+      rw e (refl, refl)

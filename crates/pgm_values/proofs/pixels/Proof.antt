@@ -1,4 +1,4 @@
--- `pgm_values::pixels` meets its contract: sides that fit have at most 1,048,576 pixels. Assumes nothing.
+-- `pgm_values::pixels` meets its contract: sides that fit have few enough pixels. Assumes nothing.
 use Rattle.causes.proofs.Laws.{bounded}
 use borrow.Author.Needs.{needs}
 use native.Mathlib.Omega.{arith}

@@ -1,7 +1,6 @@
 -- `pgm_write::write` meets its contract. Assumes nothing.
-use Rattle.pgm_write.proofs.Judging.{writable-is, buffer-written, buffer-kept}
-use mathlib.Core.Path.{_∙_, sym, ap}
-use Rattle.pgm_write.specs.Write.{written-numbers}
+use Rattle.pgm_write.proofs.Judging.{writable-is, call-written, call-refused}
+use mathlib.Core.Path.{_∙_, sym}
 use borrow.Author.Needs.{needs}
 use Rattle.pgm_write.proofs.write.Statement.{statement}
 use Rattle.pgm_write.proofs.write.Tie as tie
@@ -25,13 +24,11 @@ same-length c = search needs
 
 returns : tie.Need-returns
 returns c =
-    let e = sym (c .before .before .before .before .before .needed .given .1) ∙ c .before .before .before .before .before .before .before .writable .ensures in
-    (ap written-numbers e, c .before .before .put-file .ensures ∙ buffer-written _ _ _ _ _ _ (sym e))
+    let at-needed = c .before .before .before .before .before in
+    call-written _ _ _ _ _ _ (at-needed .before .before .writable .ensures) _ _ (at-needed .needed .given .1) (c .before .before .put-file .ensures)
 
 returns-2 : tie.Need-returns-2
-returns-2 c =
-    let e = sym (c .before .cause .given .1) ∙ c .before .before .before .writable .ensures in
-    (ap written-numbers e, buffer-kept _ _ _ _ _ _ (sym e))
+returns-2 c = call-refused _ _ _ _ _ _ (c .before .before .before .writable .ensures) _ (c .before .cause .given .1)
 
 pub write-spec : {M : Type 1} → statement M
 write-spec =
