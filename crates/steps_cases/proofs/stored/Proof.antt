@@ -1,4 +1,5 @@
 -- `steps_cases::stored` is safe and ends. Assumes nothing.
+-- The invariant: no more entries are passed than there are. The measure: how many are left.
 use Prim.Native.Nat.{_≤_, _-_}
 use borrow.Author.Needs.{needs}
 use Rattle.steps_cases.proofs.stored.Statement.{statement}
