@@ -19,9 +19,9 @@ use Rattle.tree.specs.Forest.{Forest, Node-root, node-root}
 use Rattle.tree.proofs.Forest.{node-root-self, node-root-is}
 use Rattle.causes.specs.Bounds.{words-a-pixel}
 use Rattle.causes.proofs.Lists.{length-two}
-use Rattle.flood.specs.Levels.{grey}
-use Rattle.flood.specs.Flooding.{parent-of, order-of}
-use Rattle.flood.proofs.Counts.{equal-or-not}
+use Rattle.levels.specs.Levels.{grey}
+use Rattle.levels.specs.Workspace.{parent-of, order-of}
+use Rattle.levels.proofs.Counts.{equal-or-not}
 use Rattle.accumulators.specs.Accumulators.{nothing, combined, measured, gathered, Small}
 use Rattle.branches.specs.Branches.{owned, branch, poured}
 use Rattle.listing.specs.Listing.{Listed}

@@ -9,9 +9,8 @@ use lib.ListN.{getD, length, set}
 use Rattle.sets.specs.Sets.{Positions}
 use Rattle.connected.specs.Component.{Adjacency, Symmetric}
 use Rattle.tree.specs.Forest.{Forest}
-use Rattle.flood.specs.Levels.{grey}
-use Rattle.flood.specs.Flooding.{parent-of, order-of}
-use Rattle.flood.specs.Calls.{Sized}
+use Rattle.levels.specs.Levels.{grey}
+use Rattle.levels.specs.Workspace.{parent-of, order-of, Sized}
 use Rattle.accumulators.specs.Accumulators.{combined, measured, gathered, Small, bound, In-order}
 use Rattle.branches.specs.Branches.{owned, branch}
 use Rattle.listing.specs.Listing.{Listed}

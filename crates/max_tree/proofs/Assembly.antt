@@ -24,10 +24,11 @@ use Rattle.tree.proofs.Record.{representative-lowest, parent-word-lowest, numbe
 use Rattle.tree.proofs.Relabel.{relabel-root, relabel-forest, relabel-owned}
 use Rattle.causes.specs.Bounds.{longest-side}
 use Rattle.causes.proofs.Laws.{Bounded, bounded}
-use Rattle.flood.specs.Levels.{grey, total, starts-of}
-use Rattle.flood.specs.Flooding.{parent-of, order-of, darker}
-use Rattle.flood.specs.Calls.{Sized, Floodable, FloodedBy}
-use Rattle.flood.proofs.Tables.{table-long, table-read, total-below}
+use Rattle.sets.proofs.Tables.{table-long, table-read}
+use Rattle.levels.specs.Levels.{grey, total, starts-of, darker}
+use Rattle.levels.specs.Workspace.{parent-of, order-of, Sized}
+use Rattle.levels.proofs.Tables.{total-below}
+use Rattle.flood.specs.Calls.{Floodable, FloodedBy}
 use Rattle.accumulators.specs.Accumulators.{nothing, single, combined, gathered, Short}
 use Rattle.branches.specs.Branches.{owned}
 use Rattle.listing.specs.Listing.{Listed}

@@ -15,7 +15,7 @@ use Rattle.opening.specs.Opening.{component-at}
 use Rattle.opening.proofs.Components.{level-self, level-neighbour}
 use Rattle.tree.specs.Forest.{Forest}
 use Rattle.tree.proofs.Together.{Together, together-sym, together-trans}
-use Rattle.flood.specs.Flooding.{Joined, same, edge, back, then, Contains, Flooded}
+use Rattle.flooding.specs.Flooding.{Joined, same, edge, back, then, Contains, Flooded}
 
 -- a join of pixels with one label is along that label
 joined-label : (label : ℕ → ℕ) (p q : ℕ) → Joined (λ (x y : ℕ). eqb (label x) (label y)) p q → label p ≡ label q

@@ -22,9 +22,9 @@ use Rattle.grid.specs.declared.Grid.{Grid}
 use Rattle.grid.proofs.Attributes.{adjacent-symmetric}
 use Rattle.tree.specs.Tree.{parents, attributes, parent-word, attribute-word, is-representative, number-of-nodes}
 use Rattle.causes.specs.Bounds.{most-pixels, words-a-pixel}
-use Rattle.flood.specs.Levels.{grey}
-use Rattle.flood.specs.Flooding.{parent-of, order-of}
-use Rattle.flood.proofs.Tables.{as-table}
+use Rattle.sets.proofs.Tables.{as-table}
+use Rattle.levels.specs.Levels.{grey}
+use Rattle.levels.specs.Workspace.{parent-of, order-of}
 use Rattle.accumulators.specs.Accumulators.{nothing, single, combined, measured}
 use Rattle.accumulators.proofs.Accumulators.{single-small, gathered-ends, measured-attribute}
 use Rattle.branches.specs.Branches.{branch}

@@ -12,7 +12,7 @@ use Rattle.tree.specs.Tree.{parents, attributes, is-representative, number-of-n
 use Rattle.causes.specs.Bounds.{words-a-pixel}
 use Rattle.causes.specs.Sides.{sides-fit}
 use Rattle.calls.specs.Calls.{grey, record-of}
-use Rattle.flood.specs.Flooding.{order-of}
+use Rattle.levels.specs.Workspace.{order-of}
 use Rattle.listing.specs.Listing.{Listed}
 
 -- the sides fit, the picture has a byte for each pixel and the workspace its words

@@ -5,7 +5,7 @@ ghost use mathlib.Core.Path.{_≡_};
 ghost use Prim.Native.Nat.{_*_};
 ghost use lib.ListN.{take, replicate};
 ghost use Rattle.calls.specs.Calls.{build-call, built, built-numbers, build-workspace};
-ghost use Rattle.flood.specs.Calls.{Sized};
+ghost use Rattle.levels.specs.Workspace.{Sized};
 ghost use Rattle.max_tree.specs.Building.{Buildable, Ordered, Whole};
 use grid::Grid;
 
@@ -17,7 +17,7 @@ pub fn build_ordered(picture: &[u8], grid: Grid, attribute: u32, workspace: &mut
     flood::flood(picture, grid, workspace);
     own_pixels::blank_parts(picture.len(), attribute, workspace);
     let counts = own_pixels::own_pixels(picture, grid, attribute, workspace);
-    let starts = flood::run_starts(counts);
+    let starts = levels::run_starts(counts);
     let nodes = representatives::write_record(picture, starts, workspace);
     descendants::descendants(picture, attribute, nodes, workspace);
     nodes as u32
@@ -28,10 +28,10 @@ pub fn clear_scratch(n: usize, workspace: &mut [u32])
     requires { ⌜ Sized n (now workspace) ⌝ }
     ensures { λ _. ⌜ now (workspace .exit) ≡ take (2 * n) (now (workspace .entry)) ++ replicate (4 * n) 0 ⌝ }
 {
-    flood::fill(&mut workspace[2 * n..3 * n], 0);
-    flood::fill(&mut workspace[3 * n..4 * n], 0);
-    flood::fill(&mut workspace[4 * n..5 * n], 0);
-    flood::fill(&mut workspace[5 * n..6 * n], 0);
+    levels::fill(&mut workspace[2 * n..3 * n], 0);
+    levels::fill(&mut workspace[3 * n..4 * n], 0);
+    levels::fill(&mut workspace[4 * n..5 * n], 0);
+    levels::fill(&mut workspace[5 * n..6 * n], 0);
 }
 
 // The whole record, with zero scratch. Answers the number of nodes.

@@ -5,7 +5,7 @@ use mathlib.Core.Path.{_≡_, _∙_}
 use native.Mathlib.Omega.{arith}
 use lib.ListN.{length}
 use Rattle.causes.specs.Bounds.{words-a-pixel}
-use Rattle.flood.specs.Flooding.{parent-of}
+use Rattle.levels.specs.Workspace.{parent-of}
 use Rattle.accumulators.specs.Accumulators.{nothing}
 use Rattle.parts.specs.Parts.{node-word, first-of, held-of, filled}
 use Rattle.parts.proofs.Parts.{filled-long, filled-before, filled-inside}

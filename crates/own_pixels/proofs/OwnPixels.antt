@@ -19,12 +19,13 @@ use Rattle.sets.proofs.Gather.{gather-ext, gather-none, first-in-le}
 use Rattle.grid.specs.declared.Grid.{Grid}
 use Rattle.tree.specs.Forest.{lowest}
 use Rattle.tree.proofs.Relabel.{low-le, low-root}
-use Rattle.flood.specs.Levels.{grey}
-use Rattle.flood.proofs.Counts.{equal-or-not, bit, off}
-use Rattle.flood.proofs.Tables.{as-table, count-next, counts-more}
+use Rattle.sets.proofs.Tables.{as-table}
+use Rattle.levels.specs.Levels.{grey}
+use Rattle.levels.specs.Workspace.{parent-of}
+use Rattle.levels.proofs.Counts.{equal-or-not, bit, off}
+use Rattle.levels.proofs.Tables.{count-next, counts-more}
 use Rattle.accumulators.specs.Accumulators.{nothing, single, combined, gathered, Small}
 use Rattle.branches.specs.Branches.{owned}
-use Rattle.flood.specs.Flooding.{parent-of}
 use Rattle.parts.specs.Parts.{first-of, held-of, root-of, lowest-of, lowest-own-pixel, node-level}
 use Rattle.own_pixels.specs.OwnPixels.{Blank, Noting, noted-at, counted-at, Owned}
 use Rattle.accumulators.proofs.Accumulators.{single-small, gathered-small, bound-small, gathered-with}

@@ -8,9 +8,8 @@ use lib.ListN.{getD, length, set}
 use Rattle.sets.specs.Sets.{count, table}
 use Rattle.grid.specs.declared.Grid.{Grid}
 use Rattle.causes.specs.Bounds.{most-pixels}
-use Rattle.flood.specs.Levels.{grey}
-use Rattle.flood.specs.Flooding.{parent-of}
-use Rattle.flood.specs.Calls.{Sized}
+use Rattle.levels.specs.Levels.{grey}
+use Rattle.levels.specs.Workspace.{parent-of, Sized}
 use Rattle.accumulators.specs.Accumulators.{nothing, single, gathered, Short}
 use Rattle.branches.specs.Branches.{owned}
 use Rattle.parts.specs.Parts.{first-of, held-of, root-of, lowest-of, node-level, filled}

@@ -5,8 +5,8 @@ ghost use mathlib.Core.Path.{_≡_};
 ghost use Prim.Native.Nat.{_<_};
 ghost use lib.Dec.{eqb};
 ghost use lib.ListN.{length, getD, set};
-ghost use Rattle.flood.specs.Levels.{grey};
-ghost use Rattle.flood.specs.Calls.{Sized};
+ghost use Rattle.levels.specs.Levels.{grey};
+ghost use Rattle.levels.specs.Workspace.{Sized};
 ghost use Rattle.accumulators.specs.Accumulators.{combined, Small};
 ghost use Rattle.own_pixels.specs.OwnPixels.{blanked, Blank, Noting, noted-at, counted-at, Owned};
 use grid::Grid;
@@ -17,9 +17,9 @@ pub fn blank_parts(n: usize, attribute: u32, ws: &mut [u32])
     ensures { λ _. ⌜ now (ws .exit) ≡ blanked n attribute (now (ws .entry)) ⌝ }
 {
     let none = accumulators::none(attribute);
-    flood::fill(&mut ws[n..2 * n], 0);
-    flood::fill(&mut ws[3 * n..4 * n], n as u32);
-    flood::fill(&mut ws[4 * n..5 * n], none);
+    levels::fill(&mut ws[n..2 * n], 0);
+    levels::fill(&mut ws[3 * n..4 * n], n as u32);
+    levels::fill(&mut ws[4 * n..5 * n], none);
 }
 
 // The node root of the pixel q, whose parent word is p.

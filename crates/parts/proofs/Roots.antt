@@ -8,8 +8,8 @@ use lib.ListN.{getD, length}
 use Rattle.sets.proofs.Gather.{gather-ext}
 use Rattle.opening.proofs.Levels.{cond-case}
 use Rattle.tree.specs.Forest.{node-root, lowest}
-use Rattle.flood.specs.Levels.{grey}
-use Rattle.flood.specs.Flooding.{parent-of}
+use Rattle.levels.specs.Levels.{grey}
+use Rattle.levels.specs.Workspace.{parent-of}
 use Rattle.parts.specs.Parts.{root-of, lowest-of, lowest-own-pixel, node-level}
 
 -- the node root that is read at q, where the words at q are the same

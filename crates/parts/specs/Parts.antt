@@ -7,8 +7,8 @@ use lib.Dec.{eqb}
 use lib.ListN.{getD, length, take, drop, replicate}
 use Rattle.sets.specs.Sets.{Positions}
 use Rattle.tree.specs.Forest.{node-root, lowest}
-use Rattle.flood.specs.Levels.{grey}
-use Rattle.flood.specs.Flooding.{parent-of}
+use Rattle.levels.specs.Levels.{grey}
+use Rattle.levels.specs.Workspace.{parent-of}
 
 -- the words of part 2, part 4 and part 5
 abbrev pub node-word : ℕ → List ℕ → ℕ → ℕ

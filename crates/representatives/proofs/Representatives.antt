@@ -19,10 +19,11 @@ use Rattle.tree.proofs.Forest.{node-root-self}
 use Rattle.tree.proofs.Relabel.{low-le}
 use Rattle.causes.specs.Bounds.{words-a-pixel}
 use Rattle.causes.proofs.Lists.{length-two}
-use Rattle.flood.specs.Levels.{grey}
-use Rattle.flood.specs.Flooding.{parent-of, order-of, Changed}
-use Rattle.flood.proofs.Counts.{equal-or-not}
-use Rattle.flood.proofs.Tables.{stored, count-next}
+use Rattle.levels.specs.Levels.{grey}
+use Rattle.levels.specs.Tables.{Changed}
+use Rattle.levels.specs.Workspace.{parent-of, order-of}
+use Rattle.levels.proofs.Counts.{equal-or-not}
+use Rattle.levels.proofs.Tables.{stored, count-next}
 use Rattle.listing.specs.Listing.{Listed}
 use Rattle.parts.specs.Parts.{node-word, first-of, held-of, root-of, lowest-of, lowest-own-pixel, node-level}
 use Rattle.representatives.specs.Representatives.{is-first, Writable, first-written, other-written, written-at, tails-at, Recordable, new-parent, new-word, Recorded}

@@ -8,9 +8,8 @@ use lib.Dec.{eqb}
 use lib.ListN.{getD, length, set}
 use Rattle.sets.specs.Sets.{count}
 use Rattle.tree.specs.Forest.{Node-root}
-use Rattle.flood.specs.Levels.{grey}
-use Rattle.flood.specs.Flooding.{parent-of, order-of, darker}
-use Rattle.flood.specs.Calls.{Sized}
+use Rattle.levels.specs.Levels.{grey, darker}
+use Rattle.levels.specs.Workspace.{parent-of, order-of, Sized}
 use Rattle.listing.specs.Listing.{Listed}
 use Rattle.parts.specs.Parts.{node-word, first-of, held-of, root-of, lowest-of, lowest-own-pixel, node-level}
 

@@ -3,7 +3,7 @@
 use Prim.Native.Nat.{_-_, _+_, _*_}
 use mathlib.Core.Path.{_≡_}
 use lib.ListN.{length, getD}
-use Rattle.flood.specs.Flooding.{order-of}
+use Rattle.levels.specs.Workspace.{order-of}
 use Rattle.descendants.proofs.Pouring.{Pouring, pouring-none, within, pour-asked, pouring-more, pouring-end}
 use native.Mathlib.Omega.{arith}
 use borrow.Author.Needs.{needs}
