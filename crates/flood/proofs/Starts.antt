@@ -18,7 +18,7 @@ use Rattle.levels.proofs.Tables.{total-darker}
 use Rattle.flooding.proofs.Beginning.{Untouched, begins, first-sound, first-at}
 use Rattle.flooding.proofs.Meeting.{tail-lt}
 use Rattle.queues.specs.Marks.{Marked}
-use Rattle.queues.specs.Queues.{state-of, Fitting, Placing}
+use Rattle.queues.specs.Queues.{lists, state-of, Fitting, Placing}
 use Rattle.visits.specs.Visits.{Ready}
 use Rattle.flood.specs.Calls.{Floodable}
 
@@ -111,7 +111,7 @@ module _ {grid : Grid} {picture ws ws₁ counts starts : List ℕ} (F : Floodabl
         Untouched
         (length picture)
         (grey picture)
-        (state-of (length picture) ws₁ starts starts (none-open (length picture)))
+        (state-of (length picture) (lists ws₁ starts starts (none-open (length picture))))
     untouched =
         record {
           unmet-all = unmet-all;
@@ -137,7 +137,7 @@ module _ {grid : Grid} {picture ws ws₁ counts starts : List ℕ} (F : Floodabl
     pub first-ready :
         {ws₂ tails roots : List ℕ}
         → Placing (length picture) 0 (grey picture 0) ws₁ starts (none-open (length picture)) ws₂ tails roots
-        → length ws₂ ≡ length ws₁ → Ready grid picture ws₂ starts tails roots (grey picture 0)
+        → length ws₂ ≡ length ws₁ → Ready grid picture (lists ws₂ starts tails roots) (grey picture 0)
     first-ready P same-length =
         record {
           bytes = bytes;

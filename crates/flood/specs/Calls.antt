@@ -10,24 +10,25 @@ use Rattle.grid.specs.declared.Grid.{Grid}
 use Rattle.levels.specs.Levels.{grey, total}
 use Rattle.levels.specs.Workspace.{Sized, parent-of}
 use Rattle.flooding.specs.Flooding.{Flooded}
+use Rattle.queues.specs.Queues.{Lists}
 use Rattle.visits.specs.Visits.{Ready}
 
 -- how far the heads and the tails have come
-abbrev pub spent : List ℕ → List ℕ → ℕ
-spent heads tails = total 256 (λ (k : ℕ). getD heads k 0) + total 256 (λ (k : ℕ). getD tails k 0)
+abbrev pub spent : Lists → ℕ
+spent s = total 256 (λ (k : ℕ). getD (s .heads) k 0) + total 256 (λ (k : ℕ). getD (s .tails) k 0)
 
 -- the words of a workspace that the flood of a picture leaves
 abbrev pub FloodedBy : Grid → List ℕ → List ℕ → Type 0
 FloodedBy grid picture ws = Flooded (length picture) (adjacent grid) (grey picture) (parent-of ws)
 
 -- the flood goes on at level r, or has ended, where r is 256
-abbrev pub Outcome : Grid → List ℕ → List ℕ → List ℕ → List ℕ → List ℕ → ℕ → Type 0
-Outcome grid picture ws heads tails roots r = Ready grid picture ws heads tails roots r ⊎ ((r ≡ 256) × FloodedBy grid picture ws)
+abbrev pub Outcome : Grid → List ℕ → Lists → ℕ → Type 0
+Outcome grid picture s r = Ready grid picture s r ⊎ ((r ≡ 256) × FloodedBy grid picture (s .words))
 
 -- a step of the flood
-pub record Stepped (grid : Grid) (picture heads tails ws' heads' tails' roots' : List ℕ) (r : ℕ) : Type 0 where
-  pub outcome : Outcome grid picture ws' heads' tails' roots' r
-  pub more : spent heads tails < spent heads' tails'
+pub record Stepped (grid : Grid) (picture : List ℕ) (s s' : Lists) (r : ℕ) : Type 0 where
+  pub outcome : Outcome grid picture s' r
+  pub more : spent s < spent s'
 
 -- a picture of the grid's pixels, with a pixel at least, and a workspace for it
 pub record Floodable (grid : Grid) (picture ws : List ℕ) : Type 0 where

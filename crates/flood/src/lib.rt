@@ -2,7 +2,7 @@
 // neither read nor written.
 pub use levels::fill;
 pub use levels::run_starts;
-ghost use Rattle.visits.specs.Visits.{Ready};
+ghost use Rattle.visits.specs.Visits.{lent, at-entry, at-exit, Ready};
 ghost use Rattle.flood.specs.Calls.{Stepped, Floodable, FloodedBy};
 use grid::Grid;
 
@@ -17,8 +17,8 @@ fn step(
     tails: &mut [usize; 256],
     roots: &mut [usize; 260],
 ) -> usize
-    requires { ⌜ Ready grid (now picture) (now ws) (now heads) (now tails) (now roots) level ⌝ }
-    ensures { λ r. ⌜ Stepped grid (now (picture .entry)) (now (heads .entry)) (now (tails .entry)) (now (ws .exit)) (now (heads .exit)) (now (tails .exit)) (now (roots .exit)) r ⌝ }
+    requires { ⌜ Ready grid (now picture) (lent ws heads tails roots) level ⌝ }
+    ensures { λ r. ⌜ Stepped grid (now (picture .entry)) (at-entry ws heads tails roots) (at-exit ws heads tails roots) r ⌝ }
 {
     let r = visits::visit_around(picture, grid, level, ws, heads, tails, roots);
     if r != level {
@@ -41,7 +41,7 @@ fn run(
     tails: &mut [usize; 256],
     roots: &mut [usize; 260],
 )
-    requires { ⌜ Ready grid (now picture) (now ws) (now heads) (now tails) (now roots) first ⌝ }
+    requires { ⌜ Ready grid (now picture) (lent ws heads tails roots) first ⌝ }
     ensures { λ _. ⌜ FloodedBy grid (now (picture .entry)) (now (ws .exit)) ⌝ }
 {
     let mut level = first;

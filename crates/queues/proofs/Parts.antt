@@ -15,7 +15,7 @@ use Rattle.levels.proofs.Counts.{by-cases, equal-or-not}
 use Rattle.levels.proofs.Tables.{stored}
 use Rattle.flooding.specs.Flooding.{Pushed}
 use Rattle.queues.specs.Marks.{digit, mark}
-use Rattle.queues.specs.Queues.{state-of, root-or, Fitting, Placing, NoneOpen, NextOpen, Closable, ClosedBelow}
+use Rattle.queues.specs.Queues.{lists, state-of, root-or, Fitting, Placing, NoneOpen, NextOpen, Next, Closable, ClosedBelow}
 use Rattle.queues.proofs.Marks.{set-here, set-there, bit-fits, clear-here, clear-there, one-shifted, remarked, remarked-wide, word-kept, root-stored, opened, closed}
 
 pub root-or-open : (root n q : ℕ) → (root ≡ n → ⊥) → root-or root n q ≡ root
@@ -70,8 +70,8 @@ level-bit l = one-shifted (l % 64) (omega arith)
 
 pub pushed :
     (n q l r x : ℕ) (ws heads tails roots : List ℕ) → Fitting n q l ws tails roots → r ≡ root-or (getD roots l 0) n q
-    → Pushed n l q (root-or (getD roots l 0) n q) (state-of n ws heads tails roots)
-    (state-of n (set (set ws q r) (2 * n + getD tails l 0) q) heads (set tails l (getD tails l 0 + 1)) (remarked roots l r x))
+    → Pushed n l q (root-or (getD roots l 0) n q) (state-of n (lists ws heads tails roots))
+    (state-of n (lists (set (set ws q r) (2 * n + getD tails l 0) q) heads (set tails l (getD tails l 0 + 1)) (remarked roots l r x)))
 pushed n q l r x ws heads tails roots F e =
     let size = F .sized .words in
     let ws' = set ws q r in
@@ -185,7 +185,7 @@ closing {n} {l} {m} {ws} {roots} C N =
     }
 
 -- what the search below a level found
-module _ {n : ℕ} {roots : List ℕ} {l m : ℕ} (F : NextOpen n roots l m ⊎ ((m ≡ 256) × NoneOpen n roots l)) where
+module _ {n : ℕ} {roots : List ℕ} {l m : ℕ} (F : Next n roots l m) where
   pub found : (m ≡ 256 → ⊥) → NextOpen n roots l m
   found ne = by-cases F (λ N. N) (λ w. absurd (ne (w .0)))
 

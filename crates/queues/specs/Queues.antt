@@ -2,6 +2,7 @@
 use Prim.Native.Nat.{ℕ, _≤_, _<_}
 use mathlib.Core.Bool.{cond}
 use mathlib.Core.List.{List}
+use mathlib.Core.Logic.{_⊎_}
 use mathlib.Core.Path.{_≡_}
 use lib.Dec.{eqb}
 use lib.ListN.{getD, length}
@@ -9,15 +10,25 @@ use Rattle.levels.specs.Workspace.{Sized, parent-of, order-of}
 use Rattle.flooding.specs.Flooding.{State, Pushed, Closed}
 use Rattle.queues.specs.Marks.{Marked}
 
--- the state that a workspace and the three tables hold
-abbrev pub state-of : ℕ → List ℕ → List ℕ → List ℕ → List ℕ → State
-state-of n ws heads tails roots =
+-- the words of a workspace, the heads and the tails of the levels' queues, and the roots of the open nodes with the set of the open levels
+pub record Lists : Type 0 where
+  pub words : List ℕ
+  pub heads : List ℕ
+  pub tails : List ℕ
+  pub roots : List ℕ
+
+abbrev pub lists : List ℕ → List ℕ → List ℕ → List ℕ → Lists
+lists ws heads tails roots = record { words = ws; heads = heads; tails = tails; roots = roots }
+
+-- the state that they hold
+abbrev pub state-of : ℕ → Lists → State
+state-of n s =
     record {
-      par = parent-of ws;
-      ord = order-of n ws;
-      head = λ (k : ℕ). getD heads k 0;
-      tail = λ (k : ℕ). getD tails k 0;
-      root = λ (k : ℕ). getD roots k 0;
+      par = parent-of (s .words);
+      ord = order-of n (s .words);
+      head = λ (k : ℕ). getD (s .heads) k 0;
+      tail = λ (k : ℕ). getD (s .tails) k 0;
+      root = λ (k : ℕ). getD (s .roots) k 0;
     }
 
 -- the root of an open level, or q, which opens it
@@ -42,7 +53,8 @@ pub record Placing (n q l : ℕ) (ws tails roots ws' tails' roots' : List ℕ) :
   pub marks : Marked n roots'
   pub step :
       (heads : List ℕ)
-      → Pushed n l q (root-or (getD roots l 0) n q) (state-of n ws heads tails roots) (state-of n ws' heads tails' roots')
+      → Pushed n l q (root-or (getD roots l 0) n q) (state-of n (lists ws heads tails roots))
+      (state-of n (lists ws' heads tails' roots'))
 
 -- no level below l is open
 abbrev pub NoneOpen : ℕ → List ℕ → ℕ → Type 0
@@ -53,6 +65,10 @@ pub record NextOpen (n : ℕ) (roots : List ℕ) (l m : ℕ) : Type 0 where
   pub lower : m < l
   pub open-here : getD roots m 0 ≡ n → ⊥
   pub next : (k : ℕ) → m < k → k < l → getD roots k 0 ≡ n
+
+-- the search below level l answers m: the brightest open level there, 256 where there is none
+abbrev pub Next : ℕ → List ℕ → ℕ → ℕ → Type 0
+Next n roots l m = NextOpen n roots l m ⊎ ((m ≡ 256) × NoneOpen n roots l)
 
 -- level l is open, and its node can be closed
 pub record Closable (n : ℕ) (ws roots : List ℕ) (l : ℕ) : Type 0 where
@@ -69,4 +85,9 @@ pub record ClosedBelow (n : ℕ) (ws roots ws' roots' : List ℕ) (l m : ℕ) : 
   pub wide-roots : length roots' ≡ 260
   pub marks : Marked n roots'
   pub step :
-      (heads tails : List ℕ) → Closed n l m (state-of n ws heads tails roots) (state-of n ws' heads tails roots')
+      (heads tails : List ℕ) → Closed n l m (state-of n (lists ws heads tails roots)) (state-of n (lists ws' heads tails roots'))
+
+-- the node of level l is closed, and m is the next level; the last node's words stay
+abbrev pub ClosedTo : ℕ → List ℕ → List ℕ → List ℕ → List ℕ → ℕ → ℕ → Type 0
+ClosedTo n ws roots ws' roots' l m =
+    ClosedBelow n ws roots ws' roots' l m ⊎ ((m ≡ 256) × NoneOpen n roots l × (ws' ≡ ws))

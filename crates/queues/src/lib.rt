@@ -1,10 +1,9 @@
 // The queues of the levels: each level has a run of part 3, a head and a tail in it, and the root of its open node. The four words after
 // the roots are the set of the open levels, one bit a level.
 ghost use mathlib.Core.Path.{_≡_};
-ghost use mathlib.Core.Logic.{_⊎_};
 ghost use Prim.Native.Nat.{_<_};
 ghost use Rattle.queues.specs.Marks.{Marked, Highest};
-ghost use Rattle.queues.specs.Queues.{root-or, Fitting, Placing, NoneOpen, NextOpen, Closable, ClosedBelow};
+ghost use Rattle.queues.specs.Queues.{root-or, Fitting, Placing, Next, Closable, ClosedTo};
 
 fn root_or(root: usize, n: usize, q: usize) -> usize
     ensures { λ r. ⌜ r ≡ root-or root n q ⌝ }
@@ -49,7 +48,7 @@ fn highest(word: usize) -> usize
 fn open_below(level: usize, n: usize, roots: &[usize; 260]) -> usize
     requires { ⌜ level < 256 ⌝ }
     requires { ⌜ Marked n (now roots) ⌝ }
-    ensures { λ r. ⌜ (NextOpen n (now (roots .entry)) level r ⊎ ((r ≡ 256) × NoneOpen n (now (roots .entry)) level)) ⌝ }
+    ensures { λ r. ⌜ Next n (now (roots .entry)) level r ⌝ }
 {
     let mut i = level / 64;
     let own = roots[256 + i] % (1 << (level % 64));
@@ -69,7 +68,7 @@ fn open_below(level: usize, n: usize, roots: &[usize; 260]) -> usize
 // 256 where there is none and the root stays its own parent.
 pub fn close(n: usize, level: usize, ws: &mut [u32], roots: &mut [usize; 260]) -> usize
     requires { ⌜ Closable n (now ws) (now roots) level ⌝ }
-    ensures { λ r. ⌜ (ClosedBelow n (now (ws .entry)) (now (roots .entry)) (now (ws .exit)) (now (roots .exit)) level r ⊎ ((r ≡ 256) × NoneOpen n (now (roots .entry)) level × (now (ws .exit) ≡ now (ws .entry)))) ⌝ }
+    ensures { λ r. ⌜ ClosedTo n (now (ws .entry)) (now (roots .entry)) (now (ws .exit)) (now (roots .exit)) level r ⌝ }
 {
     let m = open_below(level, n, roots);
     let r = roots[level];

@@ -1,10 +1,8 @@
 // The visits: each neighbour of the pixel at the head of the current level that is not met is put into its queue.
 ghost use mathlib.Core.Path.{_≡_};
-ghost use Prim.Native.Nat.{ℕ, _%_};
+ghost use Prim.Native.Nat.{_%_};
 ghost use lib.Dec.{eqb};
-ghost use lib.ListN.{length};
-ghost use Rattle.grid.specs.Neighbours.{next-in-row, next-in-column, adjacent};
-ghost use Rattle.visits.specs.Visits.{Standing, Visiting, Visited, head-pixel, Ready};
+ghost use Rattle.visits.specs.Visits.{lent, at-entry, at-exit, Ready, Standing, Visiting, above, left-of, right-of, below, Visited, AllVisited};
 use grid::Grid;
 
 // Visits the pixel q, a neighbour of the one at the head of the current level: it is put into its queue unless it is met. The answer is
@@ -19,8 +17,8 @@ fn visit(
     tails: &mut [usize; 256],
     roots: &mut [usize; 260],
 ) -> usize
-    requires { ⌜ Visiting grid (now picture) (now ws) (now heads) (now tails) (now roots) level q ⌝ }
-    ensures { λ r. ⌜ Visited grid (now (picture .entry)) (now (ws .entry)) (now (heads .entry)) (now (tails .entry)) (now (roots .entry)) (now (ws .exit)) (now (tails .exit)) (now (roots .exit)) level r (λ (x : ℕ). eqb x q) ⌝ }
+    requires { ⌜ Visiting grid (now picture) (lent ws heads tails roots) level q ⌝ }
+    ensures { λ r. ⌜ Visited grid (now (picture .entry)) (at-entry ws heads tails roots) (at-exit ws heads tails roots) level r (eqb q) ⌝ }
 {
     let n = picture.len();
     if ws[q] as usize != n {
@@ -45,8 +43,8 @@ fn visit_up(
     tails: &mut [usize; 256],
     roots: &mut [usize; 260],
 ) -> usize
-    requires { ⌜ Standing grid (now picture) (now ws) (now heads) (now tails) (now roots) level p ⌝ }
-    ensures { λ r. ⌜ Visited grid (now (picture .entry)) (now (ws .entry)) (now (heads .entry)) (now (tails .entry)) (now (roots .entry)) (now (ws .exit)) (now (tails .exit)) (now (roots .exit)) level r (λ (x : ℕ). next-in-column (grid .width) x p) ⌝ }
+    requires { ⌜ Standing grid (now picture) (lent ws heads tails roots) level p ⌝ }
+    ensures { λ r. ⌜ Visited grid (now (picture .entry)) (at-entry ws heads tails roots) (at-exit ws heads tails roots) level r (above grid p) ⌝ }
 {
     let width = grid.width as usize;
     if p < width {
@@ -66,8 +64,8 @@ fn visit_down(
     tails: &mut [usize; 256],
     roots: &mut [usize; 260],
 ) -> usize
-    requires { ⌜ Standing grid (now picture) (now ws) (now heads) (now tails) (now roots) level p ⌝ }
-    ensures { λ r. ⌜ Visited grid (now (picture .entry)) (now (ws .entry)) (now (heads .entry)) (now (tails .entry)) (now (roots .entry)) (now (ws .exit)) (now (tails .exit)) (now (roots .exit)) level r (λ (x : ℕ). next-in-column (grid .width) p x) ⌝ }
+    requires { ⌜ Standing grid (now picture) (lent ws heads tails roots) level p ⌝ }
+    ensures { λ r. ⌜ Visited grid (now (picture .entry)) (at-entry ws heads tails roots) (at-exit ws heads tails roots) level r (below grid p) ⌝ }
 {
     let width = grid.width as usize;
     if picture.len() - p <= width {
@@ -88,9 +86,9 @@ fn visit_left(
     tails: &mut [usize; 256],
     roots: &mut [usize; 260],
 ) -> usize
-    requires { ⌜ Standing grid (now picture) (now ws) (now heads) (now tails) (now roots) level p ⌝ }
+    requires { ⌜ Standing grid (now picture) (lent ws heads tails roots) level p ⌝ }
     requires { ⌜ column ≡ p % grid .width ⌝ }
-    ensures { λ r. ⌜ Visited grid (now (picture .entry)) (now (ws .entry)) (now (heads .entry)) (now (tails .entry)) (now (roots .entry)) (now (ws .exit)) (now (tails .exit)) (now (roots .exit)) level r (λ (x : ℕ). next-in-row (grid .width) x p) ⌝ }
+    ensures { λ r. ⌜ Visited grid (now (picture .entry)) (at-entry ws heads tails roots) (at-exit ws heads tails roots) level r (left-of grid p) ⌝ }
 {
     if column == 0 {
         return level;
@@ -110,9 +108,9 @@ fn visit_right(
     tails: &mut [usize; 256],
     roots: &mut [usize; 260],
 ) -> usize
-    requires { ⌜ Standing grid (now picture) (now ws) (now heads) (now tails) (now roots) level p ⌝ }
+    requires { ⌜ Standing grid (now picture) (lent ws heads tails roots) level p ⌝ }
     requires { ⌜ column ≡ p % grid .width ⌝ }
-    ensures { λ r. ⌜ Visited grid (now (picture .entry)) (now (ws .entry)) (now (heads .entry)) (now (tails .entry)) (now (roots .entry)) (now (ws .exit)) (now (tails .exit)) (now (roots .exit)) level r (λ (x : ℕ). next-in-row (grid .width) p x) ⌝ }
+    ensures { λ r. ⌜ Visited grid (now (picture .entry)) (at-entry ws heads tails roots) (at-exit ws heads tails roots) level r (right-of grid p) ⌝ }
 {
     let width = grid.width as usize;
     if column + 1 == width {
@@ -131,8 +129,8 @@ pub fn visit_around(
     tails: &mut [usize; 256],
     roots: &mut [usize; 260],
 ) -> usize
-    requires { ⌜ Ready grid (now picture) (now ws) (now heads) (now tails) (now roots) level ⌝ }
-    ensures { λ r. ⌜ Visited grid (now (picture .entry)) (now (ws .entry)) (now (heads .entry)) (now (tails .entry)) (now (roots .entry)) (now (ws .exit)) (now (tails .exit)) (now (roots .exit)) level r (λ (x : ℕ). adjacent grid (head-pixel (length (now (picture .entry))) (now (ws .entry)) (now (heads .entry)) level) x) ⌝ }
+    requires { ⌜ Ready grid (now picture) (lent ws heads tails roots) level ⌝ }
+    ensures { λ r. ⌜ AllVisited grid (now (picture .entry)) (at-entry ws heads tails roots) (at-exit ws heads tails roots) level r ⌝ }
 {
     let n = picture.len();
     let p = ws[2 * n + heads[level]] as usize;

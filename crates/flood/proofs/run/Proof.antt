@@ -4,6 +4,7 @@ use Prim.Native.Nat.{_+_, _*_, _-_}
 use mathlib.Core.Logic.{inl}
 use mathlib.Core.Path.{_≡_, refl, _∙_}
 use lib.ListN.{length}
+use Rattle.queues.specs.Queues.{lists}
 use Rattle.flood.specs.Calls.{spent, Outcome}
 use Rattle.flood.proofs.Steps.{spent-falls, unfinished, ended}
 use Rattle.flood.proofs.run.Statement.{statement}
@@ -11,11 +12,11 @@ use Rattle.flood.proofs.run.Tie as tie
 
 abbrev Inv-loop : tie.InvT-loop
 Inv-loop picture grid first ws₀ heads₀ tails₀ roots₀ level₀ ws heads tails roots level =
-    (length ws ≡ length ws₀) × Outcome grid picture ws heads tails roots level
+    (length ws ≡ length ws₀) × Outcome grid picture (lists ws heads tails roots) level
 
 abbrev μ-loop : tie.MeasureT-loop
 μ-loop picture grid first ws₀ heads₀ tails₀ roots₀ level₀ ws heads tails roots level =
-    512 * length picture + 1 - spent heads tails
+    512 * length picture + 1 - spent (lists ws heads tails roots)
 
 loop-holds : tie.Need-loop-holds Inv-loop μ-loop
 loop-holds c = (refl, inl (c .before .before .pre))

@@ -1,13 +1,73 @@
 -- `visit_around` meets its contract. Each visit that stays at the level leaves the same pixel at its head for the next.
-use Prim.Native.Nat.{_+_, _*_}
-use mathlib.Core.Path.{refl, _∙_}
+use Prim.Native.Nat.{ℕ, _+_, _*_}
+use mathlib.Core.Path.{refl}
 use native.Mathlib.Omega.{arith}
 use lib.ListN.{getD, length}
 use borrow.Author.Needs.{needs}
-use Rattle.levels.specs.Workspace.{order-of}
-use Rattle.visits.proofs.Visits.{head-in, start-standing, still, all-around, leaves, on-side, visits}
+use Rattle.sets.specs.Sets.{Positions}
+use Rattle.grid.specs.declared.Grid.{Grid}
+use Rattle.queues.specs.Queues.{Lists, lists}
+use Rattle.visits.specs.Visits.{lent, head-pixel, above, left-of, right-of, Visited}
+use Rattle.visits.proofs.Visits.{head-in, start-standing, settle, still, same-words, leaves, on-side, visits}
+use Rattle.visits.proofs.Beside.{either, around, all-around}
 use Rattle.visits.proofs.visit_around.Statement.{statement}
 use Rattle.visits.proofs.visit_around.Tie as tie
+
+-- the lists and the pixel at the start
+abbrev entry : tie.Start → Lists
+entry c = lent (c .args .ws) (c .args .heads) (c .args .tails) (c .args .roots)
+
+abbrev pixel : tie.Start → ℕ
+pixel c = head-pixel (length (c .args .picture .now)) (entry c) (c .args .level)
+
+-- the visits of a side left the flood at level r, and these lists
+abbrev Seen : tie.Start → Lists → ℕ → (Grid → ℕ → Positions) → Type 0
+Seen c s r side = Visited (c .args .grid) (c .args .picture .now) (entry c) s (c .args .level) r (side (c .args .grid) (pixel c))
+
+-- from each visit back to the one before it, which stayed
+abbrev start : tie.After-visit-up → tie.Start
+start c = c .before .before .before .before .before .before .before .before .before
+
+abbrev up : tie.After-visit-left → tie.After-visit-up
+up c = c .before .before .before .before .before .before .before
+
+abbrev left : tie.After-visit-right → tie.After-visit-left
+left c = c .before .before .before .before .before .before .before
+
+abbrev right : tie.After-visit-down → tie.After-visit-right
+right c = c .before .before .before .before .before .before .before
+
+-- what each visit left, with those before it
+abbrev lists-up : tie.After-visit-up → Lists
+lists-up c = let last = c .visit-up .last .1 .1 .1 .1 in lists (last .0) (start c .args .heads .now) (last .1 .1 .0) (last .1 .1 .1 .0)
+
+seen-up : (c : tie.After-visit-up) → Seen (start c) (lists-up c) (c .visit-up .result) above
+seen-up c = c .visit-up .ensures
+
+abbrev lists-left : tie.After-visit-left → Lists
+lists-left c =
+    let last = c .visit-left .last .1 .1 .1 .1 .1 in lists (last .0) (start (up c) .args .heads .now) (last .1 .1 .0) (last .1 .1 .1 .0)
+
+seen-left : (c : tie.After-visit-left) → Seen (start (up c)) (lists-left c) (c .visit-left .result) (either above left-of)
+seen-left c = visits (settle (seen-up (up c)) (c .before .before .before .before .if1 .left)) (c .visit-left .ensures)
+
+abbrev lists-right : tie.After-visit-right → Lists
+lists-right c =
+    let last = c .visit-right .last .1 .1 .1 .1 .1 in
+    lists (last .0) (start (up (left c)) .args .heads .now) (last .1 .1 .0) (last .1 .1 .1 .0)
+
+seen-right :
+    (c : tie.After-visit-right)
+    → Seen (start (up (left c))) (lists-right c) (c .visit-right .result) (either (either above left-of) right-of)
+seen-right c = visits (settle (seen-left (left c)) (c .before .before .before .before .if2 .left)) (c .visit-right .ensures)
+
+abbrev lists-down : tie.After-visit-down → Lists
+lists-down c =
+    let last = c .visit-down .last .1 .1 .1 .1 in
+    lists (last .0) (start (up (left (right c))) .args .heads .now) (last .1 .1 .0) (last .1 .1 .1 .0)
+
+seen-down : (c : tie.After-visit-down) → Seen (start (up (left (right c)))) (lists-down c) (c .visit-down .result) around
+seen-down c = visits (settle (seen-right (right c)) (c .before .before .before .before .if3 .left)) (c .visit-down .ensures)
 
 mul-p : tie.Need-mul-p
 mul-p c = search needs
@@ -42,72 +102,46 @@ visit-up-requires : tie.Need-visit-up-requires
 visit-up-requires c κs = search needs
 
 same-length : tie.Need-same-length
-same-length c = search needs
+same-length c = let done = c .before .before .before in same-words (seen-up done) (start done .pre)
 
 returns : tie.Need-returns
-returns c =
-    let up = c .before .before .before in
-    leaves (up .visit-up .ensures) (c .if1 .taken)
+returns c = leaves (seen-up (c .before .before .before)) (c .if1 .taken)
 
 visit-left-requires : tie.Need-visit-left-requires
 visit-left-requires c κs =
-    let up = c .before .before .before .before .before .before in
-    ((still (up .visit-up .ensures) (c .before .before .before .if1 .left) (start-standing (up .before .before .before .before .before .before .before .before .before .pre))), refl)
+    let done = c .before .before .before .before .before .before in
+    (still (start-standing (start done .pre)) (settle (seen-up done) (c .before .before .before .if1 .left)), refl)
 
 same-length-2 : tie.Need-same-length-2
-same-length-2 c = search needs
+same-length-2 c = let done = c .before .before .before in same-words (seen-left done) (start (up done) .pre)
 
 returns-2 : tie.Need-returns-2
-returns-2 c =
-    let left = c .before .before .before in
-    let up = left .before .before .before .before .before .before .before in
-    leaves (visits (up .visit-up .ensures) (left .before .before .before .before .if1 .left) (left .visit-left .ensures)) (c .if2 .taken)
+returns-2 c = leaves (seen-left (c .before .before .before)) (c .if2 .taken)
 
 visit-right-requires : tie.Need-visit-right-requires
 visit-right-requires c κs =
-    let left = c .before .before .before .before .before .before in
-    let up = left .before .before .before .before .before .before .before in
-    ((still (left .visit-left .ensures) (c .before .before .before .if2 .left) (still (up .visit-up .ensures) (left .before .before .before .before .if1 .left) (start-standing (up .before .before .before .before .before .before .before .before .before .pre)))), refl)
+    let done = c .before .before .before .before .before .before in
+    (still (start-standing (start (up done) .pre)) (settle (seen-left done) (c .before .before .before .if2 .left)), refl)
 
 same-length-3 : tie.Need-same-length-3
-same-length-3 c = search needs
+same-length-3 c = let done = c .before .before .before in same-words (seen-right done) (start (up (left done)) .pre)
 
 returns-3 : tie.Need-returns-3
-returns-3 c =
-    let right = c .before .before .before in
-    let left = right .before .before .before .before .before .before .before in
-    let up = left .before .before .before .before .before .before .before in
-    leaves (visits (visits (up .visit-up .ensures) (left .before .before .before .before .if1 .left) (left .visit-left .ensures)) (right .before .before .before .before .if2 .left) (right .visit-right .ensures)) (c .if3 .taken)
+returns-3 c = leaves (seen-right (c .before .before .before)) (c .if3 .taken)
 
 visit-down-requires : tie.Need-visit-down-requires
 visit-down-requires c κs =
-    let right = c .before .before .before .before .before .before in
-    let left = right .before .before .before .before .before .before .before in
-    let up = left .before .before .before .before .before .before .before in
-    still (right .visit-right .ensures) (c .before .before .before .if3 .left) (still (left .visit-left .ensures) (right .before .before .before .before .if2 .left) (still (up .visit-up .ensures) (left .before .before .before .before .if1 .left) (start-standing (up .before .before .before .before .before .before .before .before .before .pre))))
+    let done = c .before .before .before .before .before .before in
+    still (start-standing (start (up (left done)) .pre)) (settle (seen-right done) (c .before .before .before .if3 .left))
 
 same-length-4 : tie.Need-same-length-4
-same-length-4 c =
-    let down = c .before .before in
-    let right = down .before .before .before .before .before .before .before in
-    let left = right .before .before .before .before .before .before .before in
-    let up = left .before .before .before .before .before .before .before in
-    down .visit-down .kept .1 .1 .1 .1 .0
-    ∙ right .visit-right .kept .1 .1 .1 .1 .1 .0
-    ∙ left .visit-left .kept .1 .1 .1 .1 .1 .0
-    ∙ up .visit-up .kept .1 .1 .1 .1 .0
+same-length-4 c = let done = c .before .before in same-words (seen-down done) (start (up (left (right done))) .pre)
 
 returns-4 : tie.Need-returns-4
 returns-4 c =
-    let down = c .before .before in
-    let right = down .before .before .before .before .before .before .before in
-    let left = right .before .before .before .before .before .before .before in
-    let up = left .before .before .before .before .before .before .before in
-    let start = up .before .before .before .before .before .before .before .before .before in
-    let p = order-of (length (start .args .picture .now)) (start .args .ws .now) (getD (start .args .heads .now) (start .args .level) 0) in
-    on-side
-    (visits (visits (visits (up .visit-up .ensures) (left .before .before .before .before .if1 .left) (left .visit-left .ensures)) (right .before .before .before .before .if2 .left) (right .visit-right .ensures)) (down .before .before .before .before .if3 .left) (down .visit-down .ensures))
-    (λ x hx h. all-around (start .args .grid) p x h)
+    let done = c .before .before in
+    let at = start (up (left (right done))) in
+    on-side (seen-down done) (λ x hx h. all-around (at .args .grid) (pixel at) x h)
 
 pub visit-around-spec : {M : Type 1} → statement M
 visit-around-spec =

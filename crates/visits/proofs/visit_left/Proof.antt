@@ -3,19 +3,33 @@ use Prim.Native.Nat.{_-_}
 use mathlib.Core.Path.{sym, _∙_}
 use native.Mathlib.Nat.{mod-le}
 use native.Mathlib.Omega.{arith}
+use lib.Dec.{eqb}
 use borrow.Author.Needs.{needs}
-use borrow.Author.Tests.{eq-eqb}
-use Rattle.grid.proofs.Sides.{right-is, right-inside, is-next-in-row, to-left}
-use Rattle.visits.proofs.Visits.{beside, standing-in, visiting, stays, on-side}
+use Rattle.queues.specs.Queues.{Lists, lists}
+use Rattle.visits.specs.Visits.{lent, Visited}
+use Rattle.visits.proofs.Visits.{on-side}
+use Rattle.visits.proofs.Beside.{none-left, visit-left, is-left}
 use Rattle.visits.proofs.visit_left.Statement.{statement}
 use Rattle.visits.proofs.visit_left.Tie as tie
+
+-- the visit of the pixel on this side: the lists that it left, and what it says of them
+abbrev start : tie.After-visit → tie.Start
+start c = c .before .before .before .before .before .before .before
+
+abbrev exit : tie.After-visit → Lists
+exit c = let last = c .visit .last .1 .1 .1 .1 in lists (last .0) (start c .args .heads .now) (last .1 .1 .0) (last .1 .1 .1 .0)
+
+seen :
+    (c : tie.After-visit)
+    → let at = start c .args in
+    Visited (at .grid) (at .picture .now) (lent (at .ws) (at .heads) (at .tails) (at .roots)) (exit c) (at .level) (c .visit .result)
+    (eqb (at .p - 1))
+seen c = c .visit .ensures
 
 returns : tie.Need-returns
 returns c =
     let at = c .before .before .before in
-    let p = at .args .p in
-    let w = at .args .grid .width in
-    stays (at .pre .0 .ready) (λ x hx h. absurd (right-inside w x p h (sym (at .pre .1) ∙ c .if1 .taken)))
+    none-left (at .pre .0) (sym (at .pre .1) ∙ c .if1 .taken)
 
 sub-visit : tie.Need-sub-visit
 sub-visit c =
@@ -24,21 +38,17 @@ sub-visit c =
 
 visit-requires : tie.Need-visit-requires
 visit-requires c κs =
-    let at = c .before .before .before .before .before .before in
-    let p = at .args .p in
-    let w = at .args .grid .width in
-    let S = at .pre .0 in
-    visiting S _ (omega (arith, standing-in S)) (beside (at .args .grid) p (p - 1) (to-left w p (p - 1) (is-next-in-row w (p - 1) p (omega (arith, c .before .before .before .if1 .left, mod-le p w, at .pre .1)) (λ e. c .before .before .before .if1 .left (at .pre .1 ∙ e)))))
+    let later = c .before .before .before in
+    let at = later .before .before .before in
+    visit-left (at .pre .0) (λ e. later .if1 .left (at .pre .1 ∙ e))
 
 same-length : tie.Need-same-length
 same-length c = search needs
 
 returns-2 : tie.Need-returns-2
 returns-2 c =
-    let at = c .before .before .before .before .before .before .before .before .before in
-    let p = at .args .p in
-    let w = at .args .grid .width in
-    on-side (c .before .before .visit .ensures) (λ x hx h. eq-eqb x _ (omega (arith, right-is w x p h)))
+    let done = c .before .before in
+    on-side (seen done) (is-left (start done .args .grid) (start done .args .p))
 
 pub visit-left-spec : {M : Type 1} → statement M
 visit-left-spec = tie.close (tie.spec returns sub-visit visit-requires same-length returns-2)

@@ -1,14 +1,30 @@
 -- `visit_right` meets its contract. A pixel of the last column has no neighbour to the right, and the rows are whole.
-use Prim.Native.Nat.{ℕ, _+_, _%_}
-use mathlib.Core.Path.{_≡_, refl, sym, ap, _∙_}
-use native.Mathlib.Nat.{mod-lt, mul-mod-right}
+use Prim.Native.Nat.{ℕ, _+_}
+use mathlib.Core.Path.{sym, ap, _∙_}
+use native.Mathlib.Nat.{mod-lt}
 use native.Mathlib.Omega.{arith}
+use lib.Dec.{eqb}
 use borrow.Author.Needs.{needs}
-use borrow.Author.Tests.{eq-eqb}
-use Rattle.grid.proofs.Sides.{right-is, right-inside, is-next-in-row, to-right, row-ends, row-goes-on, row-in}
-use Rattle.visits.proofs.Visits.{beside, standing-in, visiting, stays, on-side}
+use Rattle.queues.specs.Queues.{Lists, lists}
+use Rattle.visits.specs.Visits.{lent, Visited}
+use Rattle.visits.proofs.Visits.{standing-in, on-side}
+use Rattle.visits.proofs.Beside.{none-right, visit-right, is-right}
 use Rattle.visits.proofs.visit_right.Statement.{statement}
 use Rattle.visits.proofs.visit_right.Tie as tie
+
+-- the visit of the pixel on this side: the lists that it left, and what it says of them
+abbrev start : tie.After-visit → tie.Start
+start c = c .before .before .before .before .before .before .before .before
+
+abbrev exit : tie.After-visit → Lists
+exit c = let last = c .visit .last .1 .1 .1 .1 in lists (last .0) (start c .args .heads .now) (last .1 .1 .0) (last .1 .1 .1 .0)
+
+seen :
+    (c : tie.After-visit)
+    → let at = start c .args in
+    Visited (at .grid) (at .picture .now) (lent (at .ws) (at .heads) (at .tails) (at .roots)) (exit c) (at .level) (c .visit .result)
+    (eqb (at .p + 1))
+seen c = c .visit .ensures
 
 cast-width : tie.Need-cast-width
 cast-width c = search needs
@@ -21,34 +37,24 @@ add-if1 c =
 returns : tie.Need-returns
 returns c =
     let at = c .before .before .before .before in
-    let p = at .args .p in
-    let w = at .args .grid .width in
-    stays (at .pre .0 .ready) (λ x hx h. absurd (right-inside w p x h (ap (λ (y : ℕ). y % w) (right-is w p x h) ∙ row-ends w p (ap (λ (y : ℕ). y + 1) (sym (at .pre .1)) ∙ c .if1 .taken))))
+    none-right (at .pre .0) (ap (λ (x : ℕ). x + 1) (sym (at .pre .1)) ∙ c .if1 .taken)
 
 add-visit : tie.Need-add-visit
 add-visit c = omega (arith, standing-in (c .before .before .before .before .pre .0))
 
 visit-requires : tie.Need-visit-requires
 visit-requires c κs =
-    let at = c .before .before .before .before .before .before .before in
-    let p = at .args .p in
-    let w = at .args .grid .width in
-    let S = at .pre .0 in
-    let inside : (p + 1) % w ≡ 0 → ⊥ =
-    row-goes-on w p (S .ready .wide) (λ e. c .before .before .before .if1 .left (ap (λ (y : ℕ). y + 1) (at .pre .1) ∙ e))
-    in
-    visiting S _ (row-in w p _ (standing-in S) (rw (S .ready .whole) (mul-mod-right w (at .args .grid .height))) inside) (beside (at .args .grid) p (p + 1) (to-right w p (p + 1) (is-next-in-row w p (p + 1) refl inside)))
+    let earlier = c .before .before .before in
+    let at = earlier .before .before .before .before in
+    visit-right (at .pre .0) (λ e. earlier .if1 .left (ap (λ (x : ℕ). x + 1) (at .pre .1) ∙ e))
 
 same-length : tie.Need-same-length
 same-length c = search needs
 
 returns-2 : tie.Need-returns-2
 returns-2 c =
-    let at = c .before .before .before .before .before .before .before .before .before .before in
-    let p = at .args .p in
-    let w = at .args .grid .width in
-    on-side (c .before .before .visit .ensures) (λ x hx h. eq-eqb x _ (omega (arith, right-is w p x h)))
+    let done = c .before .before in
+    on-side (seen done) (is-right (start done .args .grid) (start done .args .p))
 
 pub visit-right-spec : {M : Type 1} → statement M
-visit-right-spec =
-    tie.close (tie.spec cast-width add-if1 returns add-visit visit-requires same-length returns-2)
+visit-right-spec = tie.close (tie.spec cast-width add-if1 returns add-visit visit-requires same-length returns-2)

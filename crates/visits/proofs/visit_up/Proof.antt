@@ -1,40 +1,46 @@
 -- `visit_up` meets its contract. A pixel of the first row has no neighbour above.
 use Prim.Native.Nat.{_-_}
-use native.Mathlib.Omega.{arith}
+use lib.Dec.{eqb}
 use borrow.Author.Needs.{needs}
-use borrow.Author.Tests.{eq-eqb}
-use Rattle.grid.proofs.Sides.{below-is, is-next-in-column, to-above}
-use Rattle.visits.proofs.Visits.{beside, standing-in, visiting, stays, on-side}
+use Rattle.queues.specs.Queues.{Lists, lists}
+use Rattle.visits.specs.Visits.{lent, Visited}
+use Rattle.visits.proofs.Visits.{on-side}
+use Rattle.visits.proofs.Beside.{none-above, visit-above, is-above}
 use Rattle.visits.proofs.visit_up.Statement.{statement}
 use Rattle.visits.proofs.visit_up.Tie as tie
+
+-- the visit of the pixel on this side: the lists that it left, and what it says of them
+abbrev start : tie.After-visit → tie.Start
+start c = c .before .before .before .before .before .before .before .before
+
+abbrev exit : tie.After-visit → Lists
+exit c = let last = c .visit .last .1 .1 .1 .1 in lists (last .0) (start c .args .heads .now) (last .1 .1 .0) (last .1 .1 .1 .0)
+
+seen :
+    (c : tie.After-visit)
+    → let at = start c .args in
+    Visited (at .grid) (at .picture .now) (lent (at .ws) (at .heads) (at .tails) (at .roots)) (exit c) (at .level) (c .visit .result)
+    (eqb (at .p - at .grid .width))
+seen c = c .visit .ensures
 
 cast-width : tie.Need-cast-width
 cast-width c = search needs
 
 returns : tie.Need-returns
-returns c =
-    let at = c .before .before .before .before in
-    let p = at .args .p in
-    let w = at .args .grid .width in
-    stays (at .pre .ready) (λ x hx h. absurd (omega (arith, below-is w x p h)))
+returns c = none-above (c .before .before .before .before .pre) (c .if1 .taken)
 
 visit-requires : tie.Need-visit-requires
 visit-requires c κs =
-    let at = c .before .before .before .before .before .before .before in
-    let p = at .args .p in
-    let w = at .args .grid .width in
-    let S = at .pre in
-    visiting S _ (omega (arith, standing-in S)) (beside (at .args .grid) p (p - w) (to-above w p (p - w) (is-next-in-column w (p - w) p (omega (arith, c .before .before .before .if1 .left)))))
+    let at = c .before .before .before in
+    visit-above (at .before .before .before .before .pre) (at .if1 .left)
 
 same-length : tie.Need-same-length
 same-length c = search needs
 
 returns-2 : tie.Need-returns-2
 returns-2 c =
-    let at = c .before .before .before .before .before .before .before .before .before .before in
-    let p = at .args .p in
-    let w = at .args .grid .width in
-    on-side (c .before .before .visit .ensures) (λ x hx h. eq-eqb x _ (omega (arith, below-is w x p h)))
+    let done = c .before .before in
+    on-side (seen done) (is-above (start done .args .grid) (start done .args .p))
 
 pub visit-up-spec : {M : Type 1} → statement M
 visit-up-spec = tie.close (tie.spec cast-width returns visit-requires same-length returns-2)

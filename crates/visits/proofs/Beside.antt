@@ -1,0 +1,98 @@
+-- The sides of the pixel p where the flood stands: where there is no pixel on a side, what a visit of the one there asks, and that it is the
+-- only one. No other laws of the flood look into what a neighbour is.
+use Prim.Native.Nat.{ℕ, _+_, _-_, _%_, _≤_, _<_}
+use mathlib.Core.Bool.{true, _||_}
+use mathlib.Core.List.{List}
+use mathlib.Core.Logic.{_⊎_, inl, inr}
+use mathlib.Core.Path.{_≡_, refl, ap, _∙_}
+use native.Mathlib.Nat.{mod-le, mul-mod-right}
+use native.Mathlib.Omega.{arith}
+use lib.Dec.{eqb}
+use lib.ListN.{length}
+use borrow.Author.Tests.{eq-eqb}
+use Rattle.sets.specs.Sets.{Positions}
+use Rattle.sets.proofs.Tests.{or-left, or-right}
+use Rattle.grid.specs.Neighbours.{edge-neighbours, adjacent}
+use Rattle.grid.specs.declared.Grid.{Grid}
+use Rattle.grid.proofs.Sides.{to-right, to-below, to-left, to-above, side-of, below-is, right-is, right-inside, is-next-in-row, is-next-in-column, row-ends, row-goes-on, row-in}
+use Rattle.queues.specs.Queues.{Lists}
+use Rattle.visits.specs.Visits.{Standing, Visiting, above, left-of, right-of, below, Visited}
+use Rattle.visits.proofs.Visits.{standing-in, visiting, stays}
+
+-- what shares an edge with p is a neighbour
+beside : (grid : Grid) (p q : ℕ) → edge-neighbours (grid .width) p q ≡ true → adjacent grid p q ≡ true
+unfolding adjacent
+beside grid p q e = e
+
+-- and a neighbour is on one of the four sides
+abbrev pub either : (Grid → ℕ → Positions) → (Grid → ℕ → Positions) → Grid → ℕ → Positions
+either one other grid p q = one grid p q || other grid p q
+
+abbrev pub around : Grid → ℕ → Positions
+around = either (either (either above left-of) right-of) below
+
+pub all-around : (grid : Grid) (p q : ℕ) → adjacent grid p q ≡ true → around grid p q ≡ true
+unfolding adjacent
+all-around grid p q e = sides (side-of (grid .width) p q e)
+  where
+    sides :
+        ((right-of grid p q ≡ true) ⊎ (below grid p q ≡ true)) ⊎ ((left-of grid p q ≡ true) ⊎ (above grid p q ≡ true))
+        → around grid p q ≡ true
+    sides (inl (inl e)) = or-left _ _ (or-right (either above left-of grid p q) _ e)
+    sides (inl (inr e)) = or-right (either (either above left-of) right-of grid p q) _ e
+    sides (inr (inl e)) = or-left _ _ (or-left _ _ (or-right (above grid p q) _ e))
+    sides (inr (inr e)) = or-left _ _ (or-left _ _ (or-left (above grid p q) _ e))
+
+module _ {grid : Grid} {picture : List ℕ} {s : Lists} {l p : ℕ} (S : Standing grid picture s l p) where
+  abbrev w : ℕ
+  w = grid .width
+
+  -- above: none in the first row
+  pub none-above : p < w → Visited grid picture s s l l (above grid p)
+  none-above first = stays (S .ready) (λ q b e. absurd (omega (arith, below-is w q p e)))
+
+  pub visit-above : w ≤ p → Visiting grid picture s l (p - w)
+  visit-above later =
+      visiting S (p - w) (omega (arith, standing-in S)) (beside grid p (p - w) (to-above w p (p - w) (is-next-in-column w (p - w) p (omega arith))))
+
+  -- below: none in the last row
+  pub none-below : length picture - p ≤ w → Visited grid picture s s l l (below grid p)
+  none-below last = stays (S .ready) (λ q b e. absurd (omega (arith, below-is w p q e)))
+
+  pub visit-below : w < length picture - p → Visiting grid picture s l (p + w)
+  visit-below earlier =
+      visiting S (p + w) (omega arith) (beside grid p (p + w) (to-below w p (p + w) (is-next-in-column w p (p + w) refl)))
+
+  -- left: none in the first column
+  pub none-left : p % w ≡ 0 → Visited grid picture s s l l (left-of grid p)
+  none-left first = stays (S .ready) (λ q b e. absurd (right-inside w q p e first))
+
+  pub visit-left : (p % w ≡ 0 → ⊥) → Visiting grid picture s l (p - 1)
+  visit-left later =
+      let some : 0 < p = omega (arith, mod-le p w) in
+      visiting S (p - 1) (omega (arith, standing-in S)) (beside grid p (p - 1) (to-left w p (p - 1) (is-next-in-row w (p - 1) p (omega arith) later)))
+
+  -- right: none in the last column; the rows are whole
+  pub none-right : p % w + 1 ≡ w → Visited grid picture s s l l (right-of grid p)
+  none-right last =
+      stays (S .ready) (λ q b e. absurd (right-inside w p q e (ap (λ (x : ℕ). x % w) (right-is w p q e) ∙ row-ends w p last)))
+
+  pub visit-right : (p % w + 1 ≡ w → ⊥) → Visiting grid picture s l (p + 1)
+  visit-right earlier =
+      let on : (p + 1) % w ≡ 0 → ⊥ = row-goes-on w p (S .ready .wide) earlier in
+      let whole : length picture % w ≡ 0 = rw (S .ready .whole) (mul-mod-right w (grid .height)) in
+      visiting S (p + 1) (row-in w p _ (standing-in S) whole on) (beside grid p (p + 1) (to-right w p (p + 1) (is-next-in-row w p (p + 1) refl on)))
+
+-- the pixel that a side has
+module _ (grid : Grid) (p : ℕ) {n : ℕ} where
+  pub is-above : (q : ℕ) → q < n → above grid p q ≡ true → eqb (p - grid .width) q ≡ true
+  is-above q b e = eq-eqb _ q (omega (arith, below-is (grid .width) q p e))
+
+  pub is-below : (q : ℕ) → q < n → below grid p q ≡ true → eqb (p + grid .width) q ≡ true
+  is-below q b e = eq-eqb _ q (omega (arith, below-is (grid .width) p q e))
+
+  pub is-left : (q : ℕ) → q < n → left-of grid p q ≡ true → eqb (p - 1) q ≡ true
+  is-left q b e = eq-eqb _ q (omega (arith, right-is (grid .width) q p e))
+
+  pub is-right : (q : ℕ) → q < n → right-of grid p q ≡ true → eqb (p + 1) q ≡ true
+  is-right q b e = eq-eqb _ q (omega (arith, right-is (grid .width) p q e))
