@@ -1,12 +1,16 @@
--- Both passes together: they begin with nothing settled, and what they leave is what the definition says of the grid's pictures.
-use Prim.Native.Nat.{ℕ, _+_, _*_, _≤_, _<_}
+-- Both passes together: every pixel finds the pair of its representative, and what they leave is what the definition says of the grid's
+-- pictures.
+use Prim.Native.Nat.{ℕ, _+_, _*_, _/_, _%_, _≤_, _<_}
 use mathlib.Core.List.{List}
-use mathlib.Core.Path.{_≡_, refl, ap, subst, _∙_}
+use mathlib.Core.Logic.{⊎-elim}
+use mathlib.Core.Path.{_≡_, ap, subst, _∙_}
 use native.Mathlib.Omega.{arith}
+use lib.Dec.{eqb}
 use lib.ListN.{length, getD, take, length-map}
-use borrow.Author.Tests.{lt-ltb}
-use Rattle.sets.specs.Sets.{Positions}
+use borrow.Author.Tests.{eqb-true, eqb-false, lt-ltb}
+use Rattle.sets.specs.Sets.{Positions, table}
 use Rattle.sets.proofs.Laws.{table-ext}
+use Rattle.sets.proofs.Tests.{decided, le-or-lt}
 use Rattle.opening.specs.Opening.{Increasing, at-least}
 use Rattle.opening.specs.Residue.{thresholds}
 use Rattle.opening.proofs.Residue.{thresholds-narrow}
@@ -15,62 +19,69 @@ use Rattle.grid.specs.Attributes.{attribute}
 use Rattle.grid.proofs.Attributes.{edge-symmetric, attribute-increasing, attribute-some}
 use Rattle.grid.proofs.Whole.{grid-whole}
 use Rattle.calls.specs.Calls.{grey, residue-map, index-map}
-use Rattle.residues.specs.Passes.{Stands, Given, runs-of, Settled, Progress, holder, spread-over, Spreadable, Ready}
+use Rattle.residues.specs.Passes.{Stands, Climbable, Given, held-of, Settled, Progress, Settled-to, holder, pair-at, Spreadable, Ready}
 use Rattle.residues.specs.Recorded.{Recorded, Written}
-use Rattle.residues.proofs.Holding.{words-read}
-use Rattle.residues.proofs.Right.{places-right, maps-right}
+use Rattle.residues.proofs.Holding.{words-read, pair-read}
+use Rattle.residues.proofs.Spreading.{holder-self, holder-other}
+use Rattle.residues.proofs.Right.{places-right, holder-right}
 
-pub progress-begins : {picture steps : List ℕ} {m : ℕ} {ws residues indices : List ℕ} → Ready picture steps m ws residues indices
-    → Progress (length picture) picture steps (take (3 * length picture) ws) ws residues indices 0
-progress-begins ready = record {
-  ws-size = ready .ws-size;
-  residues-size = ready .residues-size;
-  indices-size = ready .indices-size;
-  kept = refl;
-  done = λ j l. absurd (omega arith);
-}
+-- the representative of a pixel, by the words
+abbrev holder-at : ℕ → List ℕ → ℕ → ℕ
+holder-at n words q = holder q (getD words q 0) (getD words (n + q) 0)
 
-module _ {n m : ℕ} {picture steps words ws residues indices : List ℕ} (given : Given n m picture steps words)
-    (prog : Progress n picture steps words ws residues indices m) where
+module _ {n nodes m : ℕ} {place : ℕ → ℕ} {picture words ws : List ℕ} (climb : Climbable n nodes picture words)
+    (prog : Progress n m place picture words ws nodes) where
   -- at the end every node is settled
-  settled-all : (q : ℕ) → q < n → Stands n words q → Settled n picture steps words (runs-of n ws) residues indices q
+  settled-all : (q : ℕ) → q < n → Stands n words q → Settled n m place picture words (held-of n ws) q
   settled-all q b stands =
-      let (j, l, e) = given .climb .order .place q b (lt-ltb 0 _ stands) in
-      subst (λ (p : ℕ). Settled n picture steps words (runs-of n ws) residues indices p) e (prog .done j l)
+      let (j, l, e) = climb .order .place q b (lt-ltb 0 _ stands) in
+      subst (λ (p : ℕ). Settled n m place picture words (held-of n ws) p) e (prog .done j l)
+
+  holder-stands : (q : ℕ) → q < n → (holder-at n words q < n) × Stands n words (holder-at n words q)
+  holder-stands q b =
+      ⊎-elim
+      (λ e. rw (holder-other q (getD words q 0) (getD words (n + q) 0) (eqb-true (getD words (n + q) 0) 0 e)) (climb .within q b, climb .leads q b))
+      (λ e.
+      let stands : Stands n words q =
+      ⊎-elim (λ l. absurd (eqb-false (getD words (n + q) 0) 0 e (omega arith))) (λ l. l) (le-or-lt (getD words (n + q) 0) 0) in
+      rw (holder-self q (getD words q 0) (getD words (n + q) 0) stands) (b, stands))
+      (decided (eqb (getD words (n + q) 0) 0))
 
   word-kept : (x : ℕ) → x < 3 * n → getD ws x 0 ≡ getD words x 0
   word-kept x b = words-read n ws x b ∙ ap (λ (l : List ℕ). getD l x 0) (prog .kept)
 
-  pub progress-spreads : Spreadable n ws (length residues) (length indices)
-  progress-spreads = record {
-    words-size = omega (arith, prog .ws-size);
-    residues-size = prog .residues-size;
-    indices-size = prog .indices-size;
-    within = λ q b. rw (word-kept q (omega arith)) (given .climb .within q b);
-    leads =
-        λ q b.
-        rw
-        (word-kept q (omega arith), word-kept (n + getD words q 0) (omega (arith, given .climb .within q b)))
-        (given .climb .leads q b);
+  -- the pair that a pixel finds
+  pair-found : (q : ℕ) → q < n → pair-at n ws q ≡ getD (held-of n ws) (n + holder-at n words q) 0
+  pair-found q b =
+      rw
+      (word-kept q (omega arith), word-kept (n + q) (omega arith))
+      (pair-read n ws (holder-at n words q) (holder-stands q b .0))
+
+  progress-spreads : {residues indices : ℕ} → residues ≡ n → indices ≡ n → Spreadable n ws residues indices
+  progress-spreads residues-size indices-size = record {
+    ws-size = prog .ws-size;
+    residues-size = residues-size;
+    indices-size = indices-size;
+    within = λ q b. rw (word-kept q (omega arith)) (climb .within q b);
+    high = λ q b.
+        let (inside, stands) = holder-stands q b in
+        rw (pair-found q b) (settled-all (holder-at n words q) inside stands .high);
   }
 
-  spread-words : (entries : List ℕ) → spread-over n ws entries ≡ spread-over n words entries
-  unfolding spread-over holder
-  spread-words entries = table-ext n _ _ (λ q b. rw (word-kept q (omega arith), word-kept (n + q) (omega arith)) refl)
-
 -- on a grid the pass over the pixels leaves the maps
-module _ (w h a : ℕ) (wide : 1 ≤ w) {m : ℕ} {picture steps words ws residues indices : List ℕ}
-    (given : Given (w * h) m picture steps words) (prog : Progress (w * h) picture steps words ws residues indices m)
-    (recorded : Recorded (w * h) m (edge-neighbours w) (attribute w (w * h) a) picture words)
+module _ (w h a : ℕ) (wide : 1 ≤ w) {nodes : ℕ} {picture steps words ws : List ℕ}
+    (given : Given (w * h) nodes picture steps words) (prog : Settled-to (w * h) picture steps words ws nodes)
+    (recorded : Recorded (w * h) nodes (edge-neighbours w) (attribute w (w * h) a) picture words)
     (bytes : (q : ℕ) → getD picture q 0 < 256) where
-  maps-grid : (spread-over (w * h) ws residues ≡ residue-map w h a steps picture) × (spread-over (w * h) ws indices ≡ index-map w h a steps picture)
+  maps-grid : (table (w * h) (λ (q : ℕ). pair-at (w * h) ws q % 256) ≡ residue-map w h a steps picture)
+      × (table (w * h) (λ (q : ℕ). pair-at (w * h) ws q / 256) ≡ index-map w h a steps picture)
   unfolding residue-map index-map
   maps-grid =
       let attr : Positions → ℕ = attribute w (w * h) a in
       let rise : Increasing (w * h) attr = attribute-increasing w (w * h) a in
       let whole = grid-whole w wide (w * h) (grey picture) in
-      let (best, index) =
-      maps-right
+      let right =
+      holder-right
       (edge-symmetric w)
       (attribute-some w (w * h) a)
       recorded
@@ -81,19 +92,26 @@ module _ (w h a : ℕ) (wide : 1 ≤ w) {m : ℕ} {picture steps words ws residu
       (length-map steps (at-least attr))
       (places-right (edge-symmetric w) rise (attribute-some w (w * h) a) recorded whole steps (given .rise))
       bytes
-      (settled-all given prog) in
-      (spread-words given prog residues ∙ best, spread-words given prog indices ∙ index)
+      (settled-all (given .climb) prog) in (
+        table-ext (w * h) _ _ (λ q b. rw (pair-found (given .climb) prog q b) (right q b .0)),
+        table-ext (w * h) _ _ (λ q b. rw (pair-found (given .climb) prog q b) (right q b .1)),
+      )
 
-pub passes-written : {m : ℕ} {picture steps lent ws residues indices residues' indices' : List ℕ}
-    → Given (length picture) m picture steps (take (3 * length picture) lent) → ((q : ℕ) → getD picture q 0 < 256)
-    → Progress (length picture) picture steps (take (3 * length picture) lent) ws residues indices m
-    → (residues' ≡ spread-over (length picture) ws residues) × (indices' ≡ spread-over (length picture) ws indices)
-    → Written picture steps m lent ws residues' indices'
-passes-written given bytes prog (best, index) =
-    record {
-      kept = prog .kept;
-      maps =
-          λ w h a wide size recorded.
-          let maps = maps-grid w h a wide (rw size at given) (rw size at prog) recorded bytes in
-          (best ∙ rw size (maps .0), index ∙ rw size (maps .1));
-    }
+-- what the pass over the pixels is given, and what both passes leave
+module _ {nodes : ℕ} {picture steps ws ws' residues indices : List ℕ} (ready : Ready picture steps nodes ws residues indices)
+    (prog : Settled-to (length picture) picture steps (take (3 * length picture) ws) ws' nodes) where
+  pub passes-spread : Spreadable (length picture) ws' (length residues) (length indices)
+  passes-spread = progress-spreads (ready .given .climb) prog (ready .residues-size) (ready .indices-size)
+
+  pub passes-written : {best index : List ℕ} → ((q : ℕ) → getD picture q 0 < 256)
+      → (best ≡ table (length picture) (λ (q : ℕ). pair-at (length picture) ws' q % 256))
+      × (index ≡ table (length picture) (λ (q : ℕ). pair-at (length picture) ws' q / 256))
+      → Written picture steps nodes ws ws' best index
+  passes-written bytes (is-best, is-index) =
+      record {
+        kept = prog .kept;
+        maps =
+            λ w h a wide size recorded.
+            let maps = maps-grid w h a wide (rw size at (ready .given)) (rw size at prog) recorded bytes in
+            (is-best ∙ rw size (maps .0), is-index ∙ rw size (maps .1));
+      }

@@ -1,5 +1,5 @@
--- What the two passes leave is the residue and the index of the definition. By the greys from dark to bright: a settled node whose parent holds
--- the right values holds the right values.
+-- What the nodes hold at the end is the residue and the index of the definition. By the greys from dark to bright: a settled node whose
+-- parent holds the right values holds the right values. Any tests that get narrower will do, if the places are those at which nodes fall.
 use Prim.Native.Nat.{ℕ, zero, suc, _+_, _*_, _/_, _%_, _≤_, _<_}
 use mathlib.Core.Bool.{true, cond}
 use mathlib.Core.List.{List}
@@ -11,8 +11,7 @@ use native.Mathlib.Omega.{arith}
 use lib.Dec.{eqb}
 use lib.ListN.{length, getD, length-map}
 use borrow.Author.Tests.{eq-eqb, ne-eqb, eqb-true, eqb-false}
-use Rattle.sets.specs.Sets.{Positions, member, table}
-use Rattle.sets.proofs.Laws.{table-ext}
+use Rattle.sets.specs.Sets.{Positions, member}
 use Rattle.sets.proofs.Tests.{decided, le-or-lt}
 use Rattle.connected.specs.Component.{Adjacency, Symmetric}
 use Rattle.opening.specs.Opening.{least-grey, Keeps, Increasing, at-least}
@@ -29,20 +28,20 @@ use Rattle.calls.specs.Calls.{grey}
 use Rattle.falls.specs.Falls.{fall-place, running-fall}
 use Rattle.falls.proofs.Places.{places-outlasted}
 use Rattle.falls.proofs.Nodes.{place-le, place-root, place-node, never-falls, running-le, running-parent, residue-parent, index-parent, residue-own, index-own}
-use Rattle.residues.specs.Settle.{place-of, down, shared-fall, run-of}
-use Rattle.residues.specs.Passes.{place-at, Stands, Climbable, Settled, holder, spread-over}
+use Rattle.residues.specs.Settle.{place-of, down, shared-fall, run-of, pair-of}
+use Rattle.residues.specs.Passes.{place-at, Stands, Climbable, Settled, holder}
 use Rattle.residues.specs.Recorded.{Recorded}
-use Rattle.residues.proofs.Settling.{word-never, best-never, index-never, word-falls, best-falls, index-falls}
+use Rattle.residues.proofs.Settling.{word-never, pair-never, word-falls, pair-residue, pair-index}
 use Rattle.residues.proofs.Spreading.{holder-self, holder-other}
 use Rattle.residues.proofs.Climbing.{recorded-attribute, recorded-parent, recorded-other, recorded-climbable}
 
 -- the node of q holds the right values
-record Right (n : ℕ) (adj : Adjacency) (tests : List Keeps) (picture runs residues indices : List ℕ) (q : ℕ) : Type 0 where
-  pub place : getD runs q 0 / 256 ≡ fall-place n adj tests (grey picture) q
+record Right (n : ℕ) (adj : Adjacency) (tests : List Keeps) (picture held : List ℕ) (q : ℕ) : Type 0 where
+  pub place : getD held q 0 / 256 ≡ fall-place n adj tests (grey picture) q
   pub run : fall-place n adj tests (grey picture) q < length tests
-      → getD runs q 0 % 256 ≡ running-fall n adj tests (grey picture) q
-  pub residue : getD residues q 0 ≡ residue-by n adj tests (grey picture) q
-  pub index : getD indices q 0 ≡ index-by n adj tests (grey picture) q
+      → getD held q 0 % 256 ≡ running-fall n adj tests (grey picture) q
+  pub residue : getD held (n + q) 0 % 256 ≡ residue-by n adj tests (grey picture) q
+  pub index : getD held (n + q) 0 / 256 ≡ index-by n adj tests (grey picture) q
 
 -- a word of which place and running fall are known
 shared-is : (word k place run : ℕ) → word / 256 ≡ place → (place ≡ k → word % 256 ≡ run) → shared-fall word k ≡ cond (eqb place k) run 0
@@ -51,8 +50,8 @@ shared-is word k place run e f =
     rw e (cond-case (λ (x : ℕ). x ≡ cond (eqb place k) run 0) (eqb place k) (λ t. rw t (f (eqb-true place k t))) (λ t. rw t refl))
 
 -- for the tests of thresholds the place that the words give is the one at which the node falls
-pub places-right : {n m : ℕ} {adj : Adjacency} {attr : Positions → ℕ} {picture words : List ℕ} → Symmetric adj → Increasing n attr
-    → Positive n attr → Recorded n m adj attr picture words
+pub places-right : {n nodes : ℕ} {adj : Adjacency} {attr : Positions → ℕ} {picture words : List ℕ} → Symmetric adj → Increasing n attr
+    → Positive n attr → Recorded n nodes adj attr picture words
     → ((p q : ℕ) → p < n → q < n → Together n adj (grey picture) (least-grey n (grey picture)) p q)
     → (steps : List ℕ) → rising 0 steps ≡ true → (q : ℕ) → q < n → Stands n words q
     → place-at n steps words q ≡ fall-place n adj (thresholds attr steps) (grey picture) q
@@ -74,31 +73,32 @@ places-right {n} {adj = adj} {attr} {picture} {words} symm rise positive recorde
     (place-root n adj symm (grey picture) (at-least attr 0) tests narrow whole q b (root .0) ∙ length-map steps (at-least attr))))
     (recorded-parent symm positive recorded q b stands)
 
-module _ {n m : ℕ} {adj : Adjacency} {attr : Positions → ℕ} {picture steps words runs residues indices : List ℕ} (symm : Symmetric adj)
-    (positive : Positive n attr) (recorded : Recorded n m adj attr picture words)
+module _ {n nodes m : ℕ} {adj : Adjacency} {attr : Positions → ℕ} {place : ℕ → ℕ} {picture words held : List ℕ} (symm : Symmetric adj)
+    (positive : Positive n attr) (recorded : Recorded n nodes adj attr picture words)
     (whole : (p q : ℕ) → p < n → q < n → Together n adj (grey picture) (least-grey n (grey picture)) p q) (wide : Keeps)
-    (tests : List Keeps) (narrow : Narrowing n wide tests) (number : length tests ≡ length steps)
-    (place-right : (q : ℕ) → q < n → Stands n words q → place-at n steps words q ≡ fall-place n adj tests (grey picture) q)
+    (tests : List Keeps) (narrow : Narrowing n wide tests) (number : length tests ≡ m)
+    (place-right : (q : ℕ) → q < n → Stands n words q → place q ≡ fall-place n adj tests (grey picture) q)
     (bytes : (q : ℕ) → getD picture q 0 < 256)
-    (settled : (q : ℕ) → q < n → Stands n words q → Settled n picture steps words runs residues indices q) where
+    (settled : (q : ℕ) → q < n → Stands n words q → Settled n m place picture words held q) where
   right-never : (q : ℕ) → q < n → Stands n words q → length tests ≤ fall-place n adj tests (grey picture) q
-      → Right n adj tests picture runs residues indices q
+      → Right n adj tests picture held q
   right-never q b stands l =
       let s = settled q b stands in
       let k = place-right q b stands in
       let never : fall-place n adj tests (grey picture) q ≡ length tests = omega (arith, place-le n adj symm (grey picture) wide tests narrow whole q) in
       let none = never-falls n adj symm (grey picture) wide tests narrow whole q b never in
-      let word : getD runs q 0 ≡ fall-place n adj tests (grey picture) q * 256 = s .word ∙ rw (k, ← number) (word-never _ _ _ _ l) in
+      let word : getD held q 0 ≡ fall-place n adj tests (grey picture) q * 256 = s .word ∙ rw (k, ← number) (word-never _ _ _ _ l) in
+      let pair : getD held (n + q) 0 ≡ 0 = s .pair ∙ rw (k, ← number) (pair-never _ _ _ _ _ l) in
       record {
         place = omega arith;
         run = λ falls. absurd (omega arith);
-        residue = s .best ∙ rw (k, ← number) (best-never _ _ _ _ _ l) ∙ sym (none .0);
-        index = s .index ∙ rw (k, ← number) (index-never _ _ _ _ _ _ l) ∙ sym (none .1);
+        residue = rw pair (sym (none .0));
+        index = rw pair (sym (none .1));
       }
 
   run-right : (q : ℕ) → q < n → fall-place n adj tests (grey picture) q < length tests → Parent n adj (grey picture) q (getD words q 0)
-      → Right n adj tests picture runs residues indices (getD words q 0)
-      → run-of (fall-place n adj tests (grey picture) q) (down picture q (getD words q 0)) (getD runs (getD words q 0) 0)
+      → Right n adj tests picture held (getD words q 0)
+      → run-of (fall-place n adj tests (grey picture) q) (down picture q (getD words q 0)) (getD held (getD words q 0) 0)
       ≡ running-fall n adj tests (grey picture) q
   unfolding run-of
   run-right q b l w above =
@@ -107,25 +107,33 @@ module _ {n m : ℕ} {adj : Adjacency} {attr : Positions → ℕ} {picture steps
       (sym (running-parent n adj symm (grey picture) wide tests narrow whole q (getD words q 0) b w l))
 
   right-falls : (q : ℕ) → q < n → Stands n words q → fall-place n adj tests (grey picture) q < length tests
-      → Parent n adj (grey picture) q (getD words q 0) → Right n adj tests picture runs residues indices (getD words q 0)
-      → Right n adj tests picture runs residues indices q
+      → Parent n adj (grey picture) q (getD words q 0) → Right n adj tests picture held (getD words q 0)
+      → Right n adj tests picture held q
   right-falls q b stands l w above =
       let x : ℕ = getD words q 0 in
-      let place : ℕ = fall-place n adj tests (grey picture) q in
+      let place-q : ℕ = fall-place n adj tests (grey picture) q in
       let s = settled q b stands in
       let k = place-right q b stands in
-      let run : run-of place (down picture q x) (getD runs x 0) ≡ running-fall n adj tests (grey picture) q = run-right q b l w above in
-      let word : getD runs q 0 ≡ place * 256 + running-fall n adj tests (grey picture) q = s .word ∙ rw (k, ← number, word-falls _ _ _ _ l, run) refl in
+      let run : run-of place-q (down picture q x) (getD held x 0) ≡ running-fall n adj tests (grey picture) q = run-right q b l w above in
+      let word : getD held q 0 ≡ place-q * 256 + running-fall n adj tests (grey picture) q = s .word ∙ rw (k, ← number, word-falls _ _ _ _ l, run) refl in
+      let pair : getD held (n + q) 0 ≡ pair-of (length tests) place-q (down picture q x) (getD held x 0) (getD held (n + x) 0) = s .pair ∙ rw (k, number) refl in
       let low = running-le n adj symm (grey picture) wide tests narrow whole q b in
+      let byte : run-of place-q (down picture q x) (getD held x 0) < 256 = omega (arith, run, bytes q) in
       record {
         place = omega (arith, bytes q);
         run = λ falls. omega (arith, bytes q);
-        residue = s .best ∙ rw (k, ← number, best-falls _ _ _ _ _ l, run, above .residue) (sym (residue-parent n adj symm (grey picture) wide tests narrow whole q x b w l));
-        index = s .index ∙ rw (k, ← number, index-falls _ _ _ _ _ _ l, run, above .residue, above .index, add-one) (sym (index-parent n adj symm (grey picture) wide tests narrow whole q x b w l));
+        residue =
+            ap (λ (v : ℕ). v % 256) pair
+            ∙ pair-residue _ _ _ _ _ l byte
+            ∙ rw (run, above .residue) (sym (residue-parent n adj symm (grey picture) wide tests narrow whole q x b w l));
+        index =
+            ap (λ (v : ℕ). v / 256) pair
+            ∙ pair-index _ _ _ _ _ l byte
+            ∙ rw (run, above .residue, above .index, add-one) (sym (index-parent n adj symm (grey picture) wide tests narrow whole q x b w l));
       }
 
   -- every node does, by its grey
-  right-all : (k q : ℕ) → q < n → getD picture q 0 < k → Stands n words q → Right n adj tests picture runs residues indices q
+  right-all : (k q : ℕ) → q < n → getD picture q 0 < k → Stands n words q → Right n adj tests picture held q
   right-all zero q b l stands = absurd (omega arith)
   right-all (suc k) q b l stands =
       ⊎-elim
@@ -138,13 +146,17 @@ module _ {n m : ℕ} {adj : Adjacency} {attr : Positions → ℕ} {picture steps
       (recorded-parent symm positive recorded q b stands))
       (le-or-lt (length tests) (fall-place n adj tests (grey picture) q))
     where
-      climb : Climbable n m picture words
+      climb : Climbable n nodes picture words
       climb = recorded-climbable symm positive recorded
 
-  -- a pixel has what its representative holds
-  holder-right : (q : ℕ) → q < n
-      → (getD residues (holder n words q) 0 ≡ residue-by n adj tests (grey picture) q)
-      × (getD indices (holder n words q) 0 ≡ index-by n adj tests (grey picture) q)
+  -- the pair that a pixel finds
+  abbrev pair-held : ℕ → ℕ
+  pair-held q = getD held (n + holder q (getD words q 0) (getD words (n + q) 0)) 0
+
+  -- it holds what is right for the pixel
+  pub holder-right : (q : ℕ) → q < n
+      → (pair-held q % 256 ≡ residue-by n adj tests (grey picture) q)
+      × (pair-held q / 256 ≡ index-by n adj tests (grey picture) q)
   holder-right q b =
       ⊎-elim
       (λ e. other (eqb-true (getD words (n + q) 0) 0 e))
@@ -152,29 +164,24 @@ module _ {n m : ℕ} {adj : Adjacency} {attr : Positions → ℕ} {picture steps
       (decided (eqb (getD words (n + q) 0) 0))
     where
       own : Stands n words q
-          → (getD residues (holder n words q) 0 ≡ residue-by n adj tests (grey picture) q)
-          × (getD indices (holder n words q) 0 ≡ index-by n adj tests (grey picture) q)
+          → (pair-held q % 256 ≡ residue-by n adj tests (grey picture) q)
+          × (pair-held q / 256 ≡ index-by n adj tests (grey picture) q)
       own stands =
           let right = right-all (suc (getD picture q 0)) q b (le-refl (suc (getD picture q 0))) stands in
-          rw (holder-self n words q stands) (right .residue, right .index)
+          rw (holder-self q (getD words q 0) (getD words (n + q) 0) stands) (right .residue, right .index)
 
       other : getD words (n + q) 0 ≡ 0
-          → (getD residues (holder n words q) 0 ≡ residue-by n adj tests (grey picture) q)
-          × (getD indices (holder n words q) 0 ≡ index-by n adj tests (grey picture) q)
+          → (pair-held q % 256 ≡ residue-by n adj tests (grey picture) q)
+          × (pair-held q / 256 ≡ index-by n adj tests (grey picture) q)
       other none =
           let r : ℕ = representative n adj (grey picture) q in
           let e : getD words q 0 ≡ r = recorded-other symm positive recorded q b none in
-          let climb : Climbable n m picture words = recorded-climbable symm positive recorded in
+          let climb : Climbable n nodes picture words = recorded-climbable symm positive recorded in
           let same : grey picture r ≡ grey picture q = representative-grey n adj symm (grey picture) q b in
           let over : Over n adj (grey picture) r q = subst (λ (h : ℕ). Together n adj (grey picture) h q r) (sym same) (representative-in n adj symm (grey picture) q b) in
           let stands : Stands n words r = subst (λ (x : ℕ). Stands n words x) e (climb .leads q b) in
           let right = right-all (suc (getD picture r 0)) r (representative-below n adj symm (grey picture) q b) (le-refl (suc (getD picture r 0))) stands in
-          rw (holder-other n words q none, e) (
+          rw (holder-other q (getD words q 0) (getD words (n + q) 0) none, e) (
             right .residue ∙ sym (residue-own n adj symm (grey picture) wide tests narrow q r b over same),
             right .index ∙ sym (index-own n adj symm (grey picture) wide tests narrow q r b over same),
           )
-
-  pub maps-right : (spread-over n words residues ≡ table n (λ (q : ℕ). residue-by n adj tests (grey picture) q))
-      × (spread-over n words indices ≡ table n (λ (q : ℕ). index-by n adj tests (grey picture) q))
-  unfolding spread-over
-  maps-right = (table-ext n _ _ (λ q b. holder-right q b .0), table-ext n _ _ (λ q b. holder-right q b .1))

@@ -10,9 +10,10 @@ use lib.ListN.{length, getD, set}
 use borrow.Author.Tests.{eq-eqb, lt-ltb, le-ltb, ltb-true}
 use Rattle.opening.proofs.Levels.{cond-case}
 use Rattle.falls.proofs.Places.{places-le}
-use Rattle.residues.specs.Settle.{place-of, down, shared-fall, run-of, word-of, best-of, index-of, Settleable, Stored}
+use Rattle.residues.specs.Settle.{place-of, down, shared-fall, run-of, word-of, pair-of, Settleable, stored}
 
-place-of-le : (steps : List ℕ) (r parent a : ℕ) → place-of steps r parent a ≤ length steps
+-- the place that the steps give
+pub place-of-le : (steps : List ℕ) (r parent a : ℕ) → place-of steps r parent a ≤ length steps
 unfolding place-of
 place-of-le steps r parent a =
     cond-case (λ (k : ℕ). k ≤ length steps) (eqb parent r) (λ e. le-refl (length steps)) (λ e. places-le a steps)
@@ -22,37 +23,9 @@ pub place-of-root : (steps : List ℕ) (r parent a : ℕ) → parent ≡ r → l
 unfolding place-of
 place-of-root steps r parent a e = rw (eq-eqb parent r e) (le-refl (length steps))
 
--- a node that falls is not its own parent
-pub place-of-apart : (steps : List ℕ) (r parent a : ℕ) → place-of steps r parent a < length steps → parent ≡ r → ⊥
-place-of-apart steps r parent a l e = omega (arith, place-of-root steps r parent a e)
-
 shared-le : (word k : ℕ) → shared-fall word k ≤ word % 256
 unfolding shared-fall
 shared-le word k = cond-case (λ (x : ℕ). x ≤ word % 256) (eqb (word / 256) k) (λ e. le-refl (word % 256)) (λ e. omega arith)
-
--- the place of a step is a byte or 256
-pub place-few : {picture steps words residues indices : List ℕ} {r parent : ℕ} → Settleable picture steps words residues indices r parent
-    → (a : ℕ) {k : ℕ} → k ≡ place-of steps r parent a → k ≤ 256
-place-few {steps = steps} {r = r} {parent = parent} ready a e = omega (arith, place-of-le steps r parent a, ready .few)
-
--- a running fall is at most the grey
-pub run-le : {picture steps words residues indices : List ℕ} {r parent : ℕ} → Settleable picture steps words residues indices r parent
-    → (a : ℕ) {k s : ℕ} → k ≡ place-of steps r parent a → k < length steps → s ≡ shared-fall (getD words parent 0) k
-    → down picture r parent + s ≤ getD picture r 0
-run-le {steps = steps} {words = words} {r = r} {parent = parent} ready a {k} {s} e l f =
-    omega (arith, ready .low (place-of-apart steps r parent a (omega arith)), shared-le (getD words parent 0) k, ready .darker)
-
--- and so is the one that its word holds
-pub word-low : {picture steps words residues indices : List ℕ} {r parent : ℕ} (a : ℕ)
-    → Settleable picture steps words residues indices r parent → getD picture r 0 < 256
-    → word-of (length steps) (place-of steps r parent a) (down picture r parent) (getD words parent 0) % 256 ≤ getD picture r 0
-unfolding word-of run-of
-word-low {picture} {steps} {words} {r = r} {parent = parent} a ready byte =
-    cond-case
-    (λ (w : ℕ). w % 256 ≤ getD picture r 0)
-    (ltb (place-of steps r parent a) (length steps))
-    (λ e. omega (arith, run-le ready a refl (ltb-true _ _ e) refl))
-    (λ e. omega arith)
 
 -- the numbers of a node that never falls, and of one that does
 module _ (m k fall word : ℕ) where
@@ -64,65 +37,91 @@ module _ (m k fall word : ℕ) where
   unfolding word-of
   word-falls l = rw (lt-ltb k m l)
 
-  module _ (best : ℕ) where
-    pub best-never : m ≤ k → best-of m k fall word best ≡ 0
-    unfolding best-of
-    best-never l = rw (le-ltb k m l)
+  module _ (pair : ℕ) where
+    pub pair-never : m ≤ k → pair-of m k fall word pair ≡ 0
+    unfolding pair-of
+    pair-never l = rw (le-ltb k m l)
 
-    pub best-falls : k < m → best-of m k fall word best ≡ cond (ltb best (run-of k fall word)) (run-of k fall word) best
-    unfolding best-of
-    best-falls l = rw (lt-ltb k m l)
+    pair-falls : k < m
+        → pair-of m k fall word pair
+        ≡ cond (ltb (pair % 256) (run-of k fall word)) ((k + 1) * 256 + run-of k fall word) pair
+    unfolding pair-of
+    pair-falls l = rw (lt-ltb k m l)
 
-    module _ (index : ℕ) where
-      pub index-never : m ≤ k → index-of m k fall word best index ≡ 0
-      unfolding index-of
-      index-never l = rw (le-ltb k m l)
+    -- what is read of the pair of a node that falls, if its running fall is a byte
+    module _ (l : k < m) (byte : run-of k fall word < 256) where
+      pub pair-residue : pair-of m k fall word pair % 256 ≡ cond (ltb (pair % 256) (run-of k fall word)) (run-of k fall word) (pair % 256)
+      pair-residue =
+          rw
+          (pair-falls l)
+          (cond-case
+          (λ (x : ℕ). x % 256 ≡ cond (ltb (pair % 256) (run-of k fall word)) (run-of k fall word) (pair % 256))
+          (ltb (pair % 256) (run-of k fall word))
+          (λ e. rw e (omega arith))
+          (λ e. rw e refl))
 
-      pub index-falls : k < m → index-of m k fall word best index ≡ cond (ltb best (run-of k fall word)) (k + 1) index
-      unfolding index-of
-      index-falls l = rw (lt-ltb k m l)
+      pub pair-index : pair-of m k fall word pair / 256 ≡ cond (ltb (pair % 256) (run-of k fall word)) (k + 1) (pair / 256)
+      pair-index =
+          rw
+          (pair-falls l)
+          (cond-case
+          (λ (x : ℕ). x / 256 ≡ cond (ltb (pair % 256) (run-of k fall word)) (k + 1) (pair / 256))
+          (ltb (pair % 256) (run-of k fall word))
+          (λ e. rw e (omega arith))
+          (λ e. rw e refl))
 
-module _ (picture words residues indices : List ℕ) (m r parent : ℕ) where
-  -- a node that never falls
-  pub stored-never : (k j : ℕ) → k ≡ j → m ≤ k
-      → Stored picture words residues indices (set words r (k * 256)) (set residues r 0) (set indices r 0) m j r parent
-  stored-never k j e l =
-      let never : m ≤ j = omega arith in
-      record {
-        word = rw (word-never m j (down picture r parent) (getD words parent 0) never, e) refl;
-        best = rw (best-never m j (down picture r parent) (getD words parent 0) (getD residues parent 0) never) refl;
-        index = rw (index-never m j (down picture r parent) (getD words parent 0) (getD residues parent 0) (getD indices parent 0) never) refl;
-      }
+module _ {picture : List ℕ} {m k : ℕ} {held : List ℕ} {r parent : ℕ} (ready : Settleable picture m k held r parent) where
+  -- a running fall is at most the grey
+  pub run-le : {s : ℕ} → k < m → s ≡ shared-fall (getD held parent 0) k → down picture r parent + s ≤ getD picture r 0
+  run-le l f =
+      omega (arith, ready .low (λ e. omega (arith, ready .root e)), shared-le (getD held parent 0) k, ready .darker)
 
-  module _ (k j s : ℕ) (e : k ≡ j) (l : k < m) (f : s ≡ shared-fall (getD words parent 0) k) where
-    falls : j < m
-    falls = omega arith
+  -- and so is the one that its word holds
+  pub word-low : getD picture r 0 < 256 → word-of m k (down picture r parent) (getD held parent 0) % 256 ≤ getD picture r 0
+  unfolding word-of run-of
+  word-low byte =
+      cond-case
+      (λ (w : ℕ). w % 256 ≤ getD picture r 0)
+      (ltb k m)
+      (λ e. omega (arith, run-le (ltb-true k m e) refl))
+      (λ e. omega arith)
 
-    run-is : down picture r parent + s ≡ run-of j (down picture r parent) (getD words parent 0)
+  -- an index is at most 256, if that of the parent is
+  pub pair-high : getD picture r 0 < 256 → (pair : ℕ) → ((parent ≡ r → ⊥) → pair / 256 ≤ 256)
+      → pair-of m k (down picture r parent) (getD held parent 0) pair / 256 ≤ 256
+  unfolding pair-of run-of
+  pair-high byte pair few =
+      cond-case
+      (λ (x : ℕ). x / 256 ≤ 256)
+      (ltb k m)
+      (λ e.
+      let falls : k < m = ltb-true k m e in
+      cond-case
+      (λ (x : ℕ). x / 256 ≤ 256)
+      (ltb (pair % 256) (down picture r parent + shared-fall (getD held parent 0) k))
+      (λ wins. omega (arith, run-le falls refl, ready .few))
+      (λ stays. few (λ own. omega (arith, ready .root own))))
+      (λ e. omega arith)
+
+  -- what the code stores: for a node that never falls
+  pub stored-never : m ≤ k → set (set held r (k * 256)) (length picture + r) 0 ≡ stored picture m k held r parent
+  unfolding stored
+  stored-never never = rw (word-never m k (down picture r parent) (getD held parent 0) never, pair-never m k (down picture r parent) (getD held parent 0) (getD held (length picture + parent) 0) never) refl
+
+  -- for one that does, s being what it shares with its parent
+  module _ {s : ℕ} (falls : k < m) (f : s ≡ shared-fall (getD held parent 0) k) where
+    run-is : down picture r parent + s ≡ run-of k (down picture r parent) (getD held parent 0)
     unfolding run-of
-    run-is = rw (f, e) refl
+    run-is = rw f refl
 
-    word-is : set words r (k * 256 + (down picture r parent + s)) ≡ set words r (word-of m j (down picture r parent) (getD words parent 0))
-    word-is = rw (word-falls m j (down picture r parent) (getD words parent 0) falls, run-is, e) refl
+    pub stored-wins : getD held (length picture + parent) 0 % 256 < down picture r parent + s
+        → set (set held r (k * 256 + (down picture r parent + s))) (length picture + r) ((k + 1) * 256 + (down picture r parent + s))
+        ≡ stored picture m k held r parent
+    unfolding stored
+    stored-wins more = rw (word-falls m k (down picture r parent) (getD held parent 0) falls, pair-falls m k (down picture r parent) (getD held parent 0) (getD held (length picture + parent) 0) falls, ← run-is, lt-ltb _ _ more) refl
 
-    best-is : best-of m j (down picture r parent) (getD words parent 0) (getD residues parent 0)
-        ≡ cond (ltb (getD residues parent 0) (down picture r parent + s)) (down picture r parent + s) (getD residues parent 0)
-    best-is = rw (best-falls m j (down picture r parent) (getD words parent 0) (getD residues parent 0) falls, run-is) refl
-
-    index-is : index-of m j (down picture r parent) (getD words parent 0) (getD residues parent 0) (getD indices parent 0)
-        ≡ cond (ltb (getD residues parent 0) (down picture r parent + s)) (j + 1) (getD indices parent 0)
-    index-is = rw (index-falls m j (down picture r parent) (getD words parent 0) (getD residues parent 0) (getD indices parent 0) falls, run-is) refl
-
-    -- a fall that is more than the parent's largest residue
-    pub stored-wins : getD residues parent 0 < down picture r parent + s
-        → Stored picture words residues indices (set words r (k * 256 + (down picture r parent + s))) (set residues r (down picture r parent + s)) (set indices r (k + 1)) m j r parent
-    stored-wins more =
-        let wins = lt-ltb (getD residues parent 0) (down picture r parent + s) more in
-        record { word = word-is; best = rw (best-is, wins) refl; index = rw (index-is, wins, e) refl }
-
-    -- a fall that is not
-    pub stored-stays : down picture r parent + s ≤ getD residues parent 0
-        → Stored picture words residues indices (set words r (k * 256 + (down picture r parent + s))) (set residues r (getD residues parent 0)) (set indices r (getD indices parent 0)) m j r parent
-    stored-stays less =
-        let stays = le-ltb (getD residues parent 0) (down picture r parent + s) less in
-        record { word = word-is; best = rw (best-is, stays) refl; index = rw (index-is, stays) refl }
+    pub stored-stays : down picture r parent + s ≤ getD held (length picture + parent) 0 % 256
+        → set (set held r (k * 256 + (down picture r parent + s))) (length picture + r) (getD held (length picture + parent) 0)
+        ≡ stored picture m k held r parent
+    unfolding stored
+    stored-stays less = rw (word-falls m k (down picture r parent) (getD held parent 0) falls, pair-falls m k (down picture r parent) (getD held parent 0) (getD held (length picture + parent) 0) falls, ← run-is, le-ltb _ _ less) refl

@@ -1,81 +1,44 @@
--- The pass over the pixels, for one map: the entries passed are those of the representatives, the others as they were. A
--- representative's entry stays, so that it does not matter whether it has been passed.
+-- The pass over the pixels: where a pixel finds its pair, and a map of which the entries passed are right.
 use Prim.Native.Nat.{ℕ, _+_, _≤_, _<_}
 use mathlib.Core.List.{List}
-use mathlib.Core.Logic.{⊎-elim}
-use mathlib.Core.Path.{_≡_, refl, sym, ap, _∙_}
+use mathlib.Core.Path.{_≡_, _∙_}
 use native.Mathlib.Omega.{arith}
+use lib.Dec.{eqb}
 use lib.ListN.{length, getD, set, length-set}
-use lib.Seq.{getD-set-same, getD-set-other, ext-getD}
 use borrow.Author.Tests.{eq-eqb, ne-eqb}
 use Rattle.sets.specs.Sets.{table}
-use Rattle.sets.proofs.Laws.{length-table, table-at}
-use Rattle.sets.proofs.Tests.{le-or-lt, last-or-below}
-use Rattle.residues.specs.Passes.{Stands, holder, spread-over}
+use Rattle.opening.proofs.Levels.{cond-case}
+use Rattle.flood.proofs.Tables.{as-table, stored-more}
+use Rattle.residues.specs.Passes.{holder, Spreadable}
 
--- the entries below p are those of the representatives, the others as they were
-pub record Spreading (n : ℕ) (words before entries : List ℕ) (p : ℕ) : Type 0 where
+pub holder-self : (p parent a : ℕ) → 0 < a → holder p parent a ≡ p
+unfolding holder
+holder-self p parent a stands = rw (ne-eqb a 0 (λ e. omega arith))
+
+pub holder-other : (p parent a : ℕ) → a ≡ 0 → holder p parent a ≡ parent
+unfolding holder
+holder-other p parent a none = rw (eq-eqb a 0 none)
+
+pub holder-inside : {n : ℕ} {ws : List ℕ} {residues indices : ℕ} → Spreadable n ws residues indices → (p : ℕ) → p < n
+    → holder p (getD ws p 0) (getD ws (n + p) 0) < n
+unfolding holder
+holder-inside {n} {ws} ready p b =
+    cond-case (λ (r : ℕ). r < n) (eqb (getD ws (n + p) 0) 0) (λ e. ready .within p b) (λ e. b)
+
+-- a map of n entries, those below p right
+pub record Right-to (n : ℕ) (entry : ℕ → ℕ) (entries : List ℕ) (p : ℕ) : Type 0 where
   pub size : length entries ≡ n
-  pub past : (q : ℕ) → q < p → getD entries q 0 ≡ getD before (holder n words q) 0
-  pub ahead : (q : ℕ) → p ≤ q → getD entries q 0 ≡ getD before q 0
+  pub past : (q : ℕ) → q < p → getD entries q 0 ≡ entry q
 
-pub holder-self : (n : ℕ) (words : List ℕ) (q : ℕ) → Stands n words q → holder n words q ≡ q
-unfolding holder
-holder-self n words q stands = rw (ne-eqb (getD words (n + q) 0) 0 (λ e. omega arith))
+pub spread-begins : {n : ℕ} (entry : ℕ → ℕ) (entries : List ℕ) → length entries ≡ n → Right-to n entry entries 0
+spread-begins entry entries size = record { size = size; past = λ q l. absurd (omega arith) }
 
-pub holder-other : (n : ℕ) (words : List ℕ) (q : ℕ) → getD words (n + q) 0 ≡ 0 → holder n words q ≡ getD words q 0
-unfolding holder
-holder-other n words q none = rw (eq-eqb (getD words (n + q) 0) 0 none)
+pub spread-more : {n : ℕ} {entry : ℕ → ℕ} {entries : List ℕ} {p : ℕ} → Right-to n entry entries p → p < n → (v : ℕ) → v ≡ entry p
+    → Right-to n entry (set entries p v) (p + 1)
+spread-more {entry = entry} {entries} {p} right b v is = record {
+  size = length-set entries p v ∙ right .size;
+  past = stored-more entries entry p v (omega (arith, right .size)) (right .past) is;
+}
 
-pub spread-begins : (n : ℕ) (words before : List ℕ) → length before ≡ n → Spreading n words before before 0
-spread-begins n words before size = record { size = size; past = λ q l. absurd (omega arith); ahead = λ q l. refl }
-
-pub spread-ends : (n : ℕ) (words before entries : List ℕ) (p : ℕ) → n ≤ p → Spreading n words before entries p
-    → entries ≡ spread-over n words before
-unfolding spread-over
-spread-ends n words before entries p l s =
-    ext-getD
-    0
-    entries
-    (table n (λ (q : ℕ). getD before (holder n words q) 0))
-    (s .size ∙ sym (length-table n _))
-    (λ q b. s .past q (omega (arith, s .size)) ∙ sym (table-at n _ q 0 (omega (arith, s .size))))
-
-module _ (n : ℕ) (words before entries : List ℕ) (p : ℕ) (b : p < n) (s : Spreading n words before entries p) where
-  -- whether it has been passed or not, a representative has its own entry
-  own-entry : (q : ℕ) → Stands n words q → getD entries q 0 ≡ getD before q 0
-  own-entry q stands =
-      ⊎-elim
-      (λ (late : p ≤ q). s .ahead q late)
-      (λ (early : q < p). s .past q early ∙ ap (λ (x : ℕ). getD before x 0) (holder-self n words q stands))
-      (le-or-lt p q)
-
-  -- a representative keeps its entry
-  pub spread-keeps : (getD words (n + p) 0 ≡ 0 → ⊥) → Spreading n words before entries (p + 1)
-  spread-keeps some =
-      let stands : Stands n words p = ⊎-elim (λ (none : getD words (n + p) 0 ≤ 0). absurd (some (omega arith))) (λ l. l) (le-or-lt _ 0) in
-      let here : getD entries p 0 ≡ getD before (holder n words p) 0 = rw (holder-self n words p stands) (own-entry p stands) in
-      record {
-        size = s .size;
-        past = λ q l. ⊎-elim (λ (e : q ≡ p). rw e here) (s .past q) (last-or-below q p (omega arith));
-        ahead = λ q l. s .ahead q (omega arith);
-      }
-
-  -- another pixel takes that of its representative
-  pub spread-copies : getD words (n + p) 0 ≡ 0 → Stands n words (getD words p 0)
-      → Spreading n words before (set entries p (getD entries (getD words p 0) 0)) (p + 1)
-  spread-copies none stands =
-      let here : getD (set entries p (getD entries (getD words p 0) 0)) p 0 ≡ getD before (holder n words p) 0 =
-      getD-set-same entries p _ 0 (omega (arith, s .size))
-      ∙ own-entry (getD words p 0) stands
-      ∙ ap (λ (x : ℕ). getD before x 0) (sym (holder-other n words p none)) in
-      record {
-        size = length-set entries p _ ∙ s .size;
-        past =
-            λ q l.
-            ⊎-elim
-            (λ (e : q ≡ p). rw e here)
-            (λ early. getD-set-other entries p q _ 0 (omega arith) ∙ s .past q early)
-            (last-or-below q p (omega arith));
-        ahead = λ q l. getD-set-other entries p q _ 0 (omega arith) ∙ s .ahead q (omega arith);
-      }
+pub spread-ends : {n : ℕ} {entry : ℕ → ℕ} {entries : List ℕ} {p : ℕ} → Right-to n entry entries p → n ≤ p → entries ≡ table n entry
+spread-ends {entry = entry} right l = as-table entry (right .size) (λ q b. right .past q (omega arith))

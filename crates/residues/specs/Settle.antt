@@ -1,12 +1,13 @@
--- What the pass over the nodes computes for one node from what it holds of the parent. A node's word holds the place of the step at
--- which it falls, times 256, and the node's running fall: its residue at that step.
+-- What the pass over the nodes computes for one node from what its parent holds. A node holds two words. Its run word is the place of the
+-- step at which it falls, times 256, and the node's running fall: its residue at that step. Its pair is the step of its largest
+-- residue, counted from 1, times 256, and that residue; it is 0 where the residue is 0. So a pair modulo 256 is the residue and over
+-- 256 the index.
 use Prim.Native.Nat.{ℕ, _+_, _-_, _*_, _/_, _%_, _≤_, _<_}
-use mathlib.Core.Bool.{true, cond}
+use mathlib.Core.Bool.{cond}
 use mathlib.Core.List.{List}
 use mathlib.Core.Path.{_≡_}
 use lib.Dec.{eqb, ltb}
 use lib.ListN.{length, getD, set}
-use Rattle.opening.specs.Residue.{rising}
 use Rattle.falls.specs.Falls.{places-before}
 
 -- the place of the step at which the node of r falls, by its parent word and its attribute; the number of steps if it never does
@@ -29,32 +30,38 @@ shared-fall word k = cond (eqb (word / 256) k) (word % 256) 0
 unfoldable pub run-of : ℕ → ℕ → ℕ → ℕ
 run-of k fall word = fall + shared-fall word k
 
--- the word of a node that falls at place k of m steps
+-- the run word of a node that falls at place k of m steps
 unfoldable pub word-of : ℕ → ℕ → ℕ → ℕ → ℕ
 word-of m k fall word = cond (ltb k m) (k * 256 + run-of k fall word) (k * 256)
 
--- its largest residue: the running fall, if it is more than the parent's largest
-unfoldable pub best-of : ℕ → ℕ → ℕ → ℕ → ℕ → ℕ
-best-of m k fall word best = cond (ltb k m) (cond (ltb best (run-of k fall word)) (run-of k fall word) best) 0
+-- its pair: the running fall and its step, if the fall is more than the parent's largest residue, else the parent's pair
+unfoldable pub pair-of : ℕ → ℕ → ℕ → ℕ → ℕ → ℕ
+pair-of m k fall word pair =
+    cond (ltb k m) (cond (ltb (pair % 256) (run-of k fall word)) ((k + 1) * 256 + run-of k fall word) pair) 0
 
--- the step, counted from 1, that its largest residue belongs to
-unfoldable pub index-of : ℕ → ℕ → ℕ → ℕ → ℕ → ℕ → ℕ
-index-of m k fall word best index = cond (ltb k m) (cond (ltb best (run-of k fall word)) (k + 1) index) 0
-
--- what one node needs: its place and its parent's, the parent darker and settled
-pub record Settleable (picture steps words residues indices : List ℕ) (r parent : ℕ) : Type 0 where
-  pub few : length steps ≤ 256
-  pub rise : rising 0 steps ≡ true
-  pub node : (r < length picture) × (r < length words) × (r < length residues) × (r < length indices)
-  pub above : (parent < length picture) × (parent < length words) × (parent < length residues) × (parent < length indices)
+-- what one node needs: its place among m steps, the parent darker and settled; the words of the nodes, run words and then pairs
+pub record Settleable (picture : List ℕ) (m k : ℕ) (held : List ℕ) (r parent : ℕ) : Type 0 where
+  pub few : m ≤ 256
+  pub among : k ≤ m
+  pub root : parent ≡ r → m ≤ k
+  pub size : length held ≡ 2 * length picture
+  pub node : r < length picture
+  pub above : parent < length picture
   pub darker : getD picture parent 0 ≤ getD picture r 0
-  pub low : (parent ≡ r → ⊥) → getD words parent 0 % 256 ≤ getD picture parent 0
+  pub low : (parent ≡ r → ⊥) → getD held parent 0 % 256 ≤ getD picture parent 0
 
--- the three lists after the node of r, which falls at place k of m steps, is settled
-pub record Stored (picture words residues indices words' residues' indices' : List ℕ) (m k r parent : ℕ) : Type 0 where
-  pub word : words' ≡ set words r (word-of m k (down picture r parent) (getD words parent 0))
-  pub best : residues' ≡ set residues r (best-of m k (down picture r parent) (getD words parent 0) (getD residues parent 0))
-  pub index :
-      indices'
-      ≡ set indices r
-      (index-of m k (down picture r parent) (getD words parent 0) (getD residues parent 0) (getD indices parent 0))
+-- both words stored at r, the pair n words behind the run word
+abbrev pub both-at : ℕ → List ℕ → ℕ → ℕ → ℕ → List ℕ
+both-at n held r word pair = set (set held r word) (n + r) pair
+
+-- the words of the nodes after the node of r, which falls at place k of m steps, is settled
+unfoldable pub stored : List ℕ → ℕ → ℕ → List ℕ → ℕ → ℕ → List ℕ
+stored picture m k held r parent =
+    let word : ℕ = getD held parent 0 in
+    let pair : ℕ = getD held (length picture + parent) 0 in
+    both-at
+    (length picture)
+    held
+    r
+    (word-of m k (down picture r parent) word)
+    (pair-of m k (down picture r parent) word pair)

@@ -1,14 +1,17 @@
 // The two passes over the tree record of a picture that give its maps: one over the nodes from dark to bright, which settles each node
-// from its parent, then one over the pixels. Where a node falls is read from a table if its attribute is small. Their time grows with the
-// number of steps only by the table and by the binary search that finds where any other node falls.
+// from its parent, then one over the pixels, which alone writes the maps. What a node holds stands at its representative: in part 4 its
+// run word, place × 256 + running fall, in part 5 its pair, index × 256 + largest residue, 0 where that is 0. Where a node falls is read
+// from a table if its attribute is small. Their time grows with the number of steps only by the table and by the binary search that
+// finds where any other node falls.
 ghost use mathlib.Core.Bool.{true};
 ghost use mathlib.Core.Path.{_≡_};
-ghost use Prim.Native.Nat.{_+_, _*_};
+ghost use Prim.Native.Nat.{ℕ, _+_, _*_, _/_, _%_};
 ghost use lib.ListN.{length, take};
+ghost use Rattle.sets.specs.Sets.{table};
 ghost use Rattle.opening.specs.Residue.{rising};
 ghost use Rattle.falls.specs.Falls.{places-before};
-ghost use Rattle.residues.specs.Settle.{place-of, Small-places, shared-fall, Settleable, Stored};
-ghost use Rattle.residues.specs.Passes.{Given, Progress, Visitable, Spreadable, spread-over, Ready};
+ghost use Rattle.residues.specs.Settle.{place-of, Small-places, shared-fall, Settleable, stored};
+ghost use Rattle.residues.specs.Passes.{Given, Settled-to, Visitable, holder, pair-at, Spreadable, Ready};
 ghost use Rattle.residues.specs.Recorded.{Written};
 
 // How many thresholds of a rising list stand before the first one above `a`.
@@ -65,71 +68,40 @@ fn shared(word: u32, k: u32) -> u32
     if word / 256 == k { word % 256 } else { 0 }
 }
 
-// Settles the node of r, whose parent is settled: stores its word, its largest residue and the step of that. The fall from its parent
-// merges into the parent's running fall if both fall at the same step, and wins only if it is more than the parent's largest.
-fn settle(
-    picture: &[u8],
-    steps: &[u32],
-    table: &[usize; 256],
-    r: usize,
-    parent: usize,
-    a: u32,
-    words: &mut [u32],
-    residues: &mut [u8],
-    indices: &mut [u16],
-)
-    requires { ⌜ Settleable (now picture) (now steps) (now words) (now residues) (now indices) r parent ⌝ }
-    requires { ⌜ Small-places (now steps) (now table) ⌝ }
-    ensures { λ _. ⌜ Stored (now (picture .entry)) (now (words .entry)) (now (residues .entry)) (now (indices .entry)) (now (words .exit)) (now (residues .exit)) (now (indices .exit)) (length (now (steps .entry))) (place-of (now (steps .entry)) r parent a) r parent ⌝ }
+// Settles the node of r, which falls at place k of `count` steps, and whose parent is settled: stores its run word and, a part on, its
+// pair. The fall from its parent merges into the parent's running fall if both fall at the same step, and wins only if it is more than
+// the parent's largest residue.
+fn settle(picture: &[u8], count: usize, k: usize, r: usize, parent: usize, held: &mut [u32])
+    requires { ⌜ Settleable (now picture) count k (now held) r parent ⌝ }
+    ensures { λ _. ⌜ now (held .exit) ≡ stored (now (picture .entry)) count k (now (held .entry)) r parent ⌝ }
 {
-    let k = place(steps, table, r, parent, a);
-    if steps.len() <= k {
-        words[r] = (k as u32) * 256;
-        residues[r] = 0;
-        indices[r] = 0;
+    let n = picture.len();
+    if count <= k {
+        held[r] = (k as u32) * 256;
+        held[n + r] = 0;
         return;
     }
-    let run = (picture[r] - picture[parent]) as u32 + shared(words[parent], k as u32);
-    words[r] = (k as u32) * 256 + run;
-    let best = residues[parent];
-    if (best as u32) < run {
-        residues[r] = run as u8;
-        indices[r] = (k + 1) as u16;
+    let run = (picture[r] - picture[parent]) as u32 + shared(held[parent], k as u32);
+    let pair = held[n + parent];
+    held[r] = (k as u32) * 256 + run;
+    if pair % 256 < run {
+        held[n + r] = (k as u32 + 1) * 256 + run;
         return;
     }
-    residues[r] = best;
-    indices[r] = indices[parent];
+    held[n + r] = pair;
 }
 
-// Settles the node at place i of the list. Part 4 is lent on by itself.
-fn visit(
-    picture: &[u8],
-    steps: &[u32],
-    table: &[usize; 256],
-    n: usize,
-    i: usize,
-    ws: &mut [u32],
-    residues: &mut [u8],
-    indices: &mut [u16],
-)
-    requires { ⌜ Visitable n (now picture) (now steps) (now ws) (now residues) (now indices) i ⌝ }
+// Settles the node at place i of the list. Parts 4 and 5 are lent on together.
+fn visit(picture: &[u8], steps: &[u32], table: &[usize; 256], n: usize, i: usize, ws: &mut [u32])
+    requires { ⌜ Visitable n (now picture) (now steps) (now ws) i ⌝ }
     requires { ⌜ Small-places (now steps) (now table) ⌝ }
-    ensures { λ _. ⌜ Progress n (now (picture .entry)) (now (steps .entry)) (take (3 * n) (now (ws .entry))) (now (ws .exit)) (now (residues .exit)) (now (indices .exit)) (i + 1) ⌝ }
+    ensures { λ _. ⌜ Settled-to n (now (picture .entry)) (now (steps .entry)) (take (3 * n) (now (ws .entry))) (now (ws .exit)) (i + 1) ⌝ }
 {
     let r = ws[2 * n + i] as usize;
     let a = ws[n + r];
     let parent = ws[r] as usize;
-    settle(
-        picture,
-        steps,
-        table,
-        r,
-        parent,
-        a,
-        &mut ws[3 * n..4 * n],
-        residues,
-        indices,
-    );
+    let k = place(steps, table, r, parent, a);
+    settle(picture, steps.len(), k, r, parent, &mut ws[3 * n..5 * n]);
 }
 
 // Every node, from dark to bright.
@@ -140,32 +112,37 @@ fn settle_nodes(
     n: usize,
     nodes: usize,
     ws: &mut [u32],
-    residues: &mut [u8],
-    indices: &mut [u16],
 )
-    requires { ⌜ Given n nodes (now picture) (now steps) (take (3 * n) (now ws)) × Progress n (now picture) (now steps) (take (3 * n) (now ws)) (now ws) (now residues) (now indices) 0 ⌝ }
+    requires { ⌜ Given n nodes (now picture) (now steps) (take (3 * n) (now ws)) × length (now ws) ≡ 6 * n ⌝ }
     requires { ⌜ Small-places (now steps) (now table) ⌝ }
-    ensures { λ _. ⌜ Progress n (now (picture .entry)) (now (steps .entry)) (take (3 * n) (now (ws .entry))) (now (ws .exit)) (now (residues .exit)) (now (indices .exit)) nodes ⌝ }
+    ensures { λ _. ⌜ Settled-to n (now (picture .entry)) (now (steps .entry)) (take (3 * n) (now (ws .entry))) (now (ws .exit)) nodes ⌝ }
 {
     let mut i: usize = 0;
     while i < nodes {
-        visit(picture, steps, table, n, i, ws, residues, indices);
+        visit(picture, steps, table, n, i, ws);
         i += 1;
     }
 }
 
-// Every pixel that is no representative takes what its representative has.
+// The representative of p: p itself if its attribute word is not 0, else what its parent word leads to.
+fn holder_of(p: usize, parent: u32, a: u32) -> usize
+    ensures { λ r. ⌜ r ≡ holder p parent a ⌝ }
+{
+    if a == 0 { parent as usize } else { p }
+}
+
+// Every pixel takes both entries from the pair that its representative holds.
 fn spread(n: usize, ws: &[u32], residues: &mut [u8], indices: &mut [u16])
     requires { ⌜ Spreadable n (now ws) (length (now residues)) (length (now indices)) ⌝ }
-    ensures { λ _. ⌜ (now (residues .exit) ≡ spread-over n (now (ws .entry)) (now (residues .entry))) × (now (indices .exit) ≡ spread-over n (now (ws .entry)) (now (indices .entry))) ⌝ }
+    ensures residues { λ _. ⌜ now (residues .exit) ≡ table n (λ (q : ℕ). pair-at n (now (ws .entry)) q % 256) ⌝ }
+    ensures indices { λ _. ⌜ now (indices .exit) ≡ table n (λ (q : ℕ). pair-at n (now (ws .entry)) q / 256) ⌝ }
 {
     let mut p: usize = 0;
     while p < n {
-        if ws[n + p] == 0 {
-            let r = ws[p] as usize;
-            residues[p] = residues[r];
-            indices[p] = indices[r];
-        }
+        let r = holder_of(p, ws[p], ws[n + p]);
+        let pair = ws[4 * n + r];
+        residues[p] = (pair % 256) as u8;
+        indices[p] = (pair / 256) as u16;
         p += 1;
     }
 }
@@ -184,6 +161,6 @@ pub fn write_maps(
 {
     let n = picture.len();
     let table = small_places(steps);
-    settle_nodes(picture, steps, &table, n, nodes, ws, residues, indices);
+    settle_nodes(picture, steps, &table, n, nodes, ws);
     spread(n, ws, residues, indices);
 }

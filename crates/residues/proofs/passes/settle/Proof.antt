@@ -1,45 +1,39 @@
 -- `residues::passes::settle` meets its contract.
+use Prim.Native.Nat.{_+_, _<_}
 use borrow.Author.Needs.{needs}
 use native.Mathlib.Omega.{arith}
-use Rattle.residues.proofs.Settling.{place-few, run-le, stored-never, stored-wins, stored-stays}
+use lib.ListN.{length-set}
+use Rattle.residues.specs.Settle.{down}
+use Rattle.residues.proofs.Settling.{run-le, stored-never, stored-wins, stored-stays}
 use Rattle.residues.proofs.passes.settle.Statement.{statement}
 use Rattle.residues.proofs.passes.settle.Tie as tie
 
-place-requires : tie.Need-place-requires
-place-requires c κs = search needs
+cast-held : tie.Need-cast-held
+cast-held c = search needs
 
-cast-words : tie.Need-cast-words
-cast-words c = omega (arith, place-few (c .before .before .before .before .before .before .before .pre .0) _ (c .before .place .ensures))
+mul-held : tie.Need-mul-held
+mul-held c = search needs
 
-mul-words : tie.Need-mul-words
-mul-words c = omega (arith, place-few (c .before .before .before .before .before .before .before .pre .0) _ (c .before .place .ensures))
+mul-held-2 : tie.Need-mul-held-2
+mul-held-2 c = search needs
 
-mul-words-2 : tie.Need-mul-words-2
-mul-words-2 c = search needs
+slice-write-held : tie.Need-slice-write-held
+slice-write-held c = search needs
 
-slice-write-words : tie.Need-slice-write-words
-slice-write-words c = search needs
+add-held : tie.Need-add-held
+add-held c = search needs
 
-slice-write-residues : tie.Need-slice-write-residues
-slice-write-residues c = search needs
+mul-held-3 : tie.Need-mul-held-3
+mul-held-3 c = search needs
 
-mul-indices : tie.Need-mul-indices
-mul-indices c = search needs
-
-slice-write-indices : tie.Need-slice-write-indices
-slice-write-indices c = search needs
+slice-write-held-2 : tie.Need-slice-write-held-2
+slice-write-held-2 c = simp length-set (omega arith)
 
 same-length : tie.Need-same-length
 same-length c = search needs
 
-same-length-2 : tie.Need-same-length-2
-same-length-2 c = search needs
-
-same-length-3 : tie.Need-same-length-3
-same-length-3 c = search needs
-
 returns : tie.Need-returns
-returns c = stored-never _ _ _ _ _ _ _ _ _ (c .before .place .ensures) (c .if1 .taken)
+returns c = stored-never (c .before .before .before .pre) (c .if1 .taken)
 
 shared-slice-read-run : tie.Need-shared-slice-read-run
 shared-slice-read-run c = search needs
@@ -51,7 +45,7 @@ sub-run : tie.Need-sub-run
 sub-run c = search needs
 
 cast-run : tie.Need-cast-run
-cast-run c = omega (arith, c .before .shared-slice-known3 .given (c .before .before .before .before .before .before .before .before .before .args .r))
+cast-run c = omega (arith, c .shared-slice-known3 .given (c .before .before .before .before .before .args .r))
 
 mul-shared : tie.Need-mul-shared
 mul-shared c = search needs
@@ -65,117 +59,109 @@ cast-shared c = search needs
 shared-requires : tie.Need-shared-requires
 shared-requires c κs = search needs
 
+-- the running fall is a byte
+run-byte : (c : tie.After-shared)
+    → let a = c .before .before .before .before .before .before .before .args in
+    down (a .picture .now) (a .r) (a .parent) + c .shared .result < 256
+run-byte c =
+    let start = c .before .before .before .before .before .before .before in
+    omega (
+      arith,
+      run-le (start .pre) (c .before .before .before .before .if1 .left) (c .shared .ensures),
+      c .before .before .shared-slice-known3 .given (start .args .r),
+    )
+
 add-run : tie.Need-add-run
-add-run c =
-    omega (
-      arith,
-      run-le (c .before .before .before .before .before .before .before .before .before .before .before .pre .0) _ (c .before .before .before .before .before .place .ensures) (omega arith) (c .shared .ensures),
-      c .before .before .before .shared-slice-known3 .given (c .before .before .before .before .before .before .before .before .before .before .before .args .r),
-    )
+add-run c = omega (arith, run-byte c)
 
-cast-words-2 : tie.Need-cast-words-2
-cast-words-2 c = search needs
+add-pair : tie.Need-add-pair
+add-pair c = search needs
 
-mul-words-3 : tie.Need-mul-words-3
-mul-words-3 c = search needs
+mul-pair : tie.Need-mul-pair
+mul-pair c = search needs
 
-add-words : tie.Need-add-words
-add-words c =
-    omega (
-      arith,
-      run-le (c .before .before .before .before .before .before .before .before .before .before .before .pre .0) _ (c .before .before .before .before .before .place .ensures) (omega arith) (c .shared .ensures),
-      c .before .before .before .shared-slice-known3 .given (c .before .before .before .before .before .before .before .before .before .before .before .args .r),
-    )
+slice-read-pair : tie.Need-slice-read-pair
+slice-read-pair c = search needs
 
-mul-words-4 : tie.Need-mul-words-4
-mul-words-4 c = search needs
+cast-held-2 : tie.Need-cast-held-2
+cast-held-2 c = search needs
 
-slice-write-words-2 : tie.Need-slice-write-words-2
-slice-write-words-2 c = search needs
+mul-held-4 : tie.Need-mul-held-4
+mul-held-4 c = search needs
 
-slice-read-best : tie.Need-slice-read-best
-slice-read-best c = search needs
+add-held-2 : tie.Need-add-held-2
+add-held-2 c = omega (arith, run-byte (c .before))
 
-cast-if2 : tie.Need-cast-if2
-cast-if2 c = omega (arith, c .slice-known5 .given (c .before .before .before .before .before .before .before .before .before .before .before .before .args .parent))
+mul-held-5 : tie.Need-mul-held-5
+mul-held-5 c = search needs
 
-cast-residues : tie.Need-cast-residues
-cast-residues c =
-    omega (
-      arith,
-      run-le (c .before .before .before .before .before .before .before .before .before .before .before .before .before .pre .0) _ (c .before .before .before .before .before .before .before .place .ensures) (omega arith) (c .before .before .shared .ensures),
-      c .before .before .before .before .before .shared-slice-known3 .given (c .before .before .before .before .before .before .before .before .before .before .before .before .before .args .r),
-    )
+slice-write-held-3 : tie.Need-slice-write-held-3
+slice-write-held-3 c = search needs
 
-slice-write-residues-2 : tie.Need-slice-write-residues-2
-slice-write-residues-2 c = search needs
+cast-held-3 : tie.Need-cast-held-3
+cast-held-3 c = search needs
 
-add-indices : tie.Need-add-indices
-add-indices c = search needs
+add-held-3 : tie.Need-add-held-3
+add-held-3 c = search needs
 
-cast-indices : tie.Need-cast-indices
-cast-indices c = search needs
+mul-held-6 : tie.Need-mul-held-6
+mul-held-6 c = search needs
 
-mul-indices-2 : tie.Need-mul-indices-2
-mul-indices-2 c = search needs
+add-held-4 : tie.Need-add-held-4
+add-held-4 c = omega (arith, run-byte (c .before .before))
 
-slice-write-indices-2 : tie.Need-slice-write-indices-2
-slice-write-indices-2 c = search needs
+add-held-5 : tie.Need-add-held-5
+add-held-5 c = search needs
 
-same-length-4 : tie.Need-same-length-4
-same-length-4 c = search needs
+mul-held-7 : tie.Need-mul-held-7
+mul-held-7 c = search needs
 
-same-length-5 : tie.Need-same-length-5
-same-length-5 c = search needs
+slice-write-held-4 : tie.Need-slice-write-held-4
+slice-write-held-4 c = simp length-set (omega arith)
 
-same-length-6 : tie.Need-same-length-6
-same-length-6 c = search needs
+same-length-2 : tie.Need-same-length-2
+same-length-2 c = search needs
 
 returns-2 : tie.Need-returns-2
-returns-2 c = stored-wins _ _ _ _ _ _ _ _ _ _ (c .before .before .before .before .before .before .before .place .ensures) (omega arith) (c .before .before .shared .ensures) (c .if2 .taken)
+returns-2 c =
+    stored-wins
+    (c .before .before .before .before .before .before .before .before .before .pre)
+    (c .before .before .before .before .before .before .if1 .left)
+    (c .before .before .shared .ensures)
+    (c .if2 .taken)
 
-slice-write-residues-3 : tie.Need-slice-write-residues-3
-slice-write-residues-3 c = search needs
+add-held-6 : tie.Need-add-held-6
+add-held-6 c = search needs
 
-mul-indices-3 : tie.Need-mul-indices-3
-mul-indices-3 c = search needs
+mul-held-8 : tie.Need-mul-held-8
+mul-held-8 c = search needs
 
-slice-read-indices : tie.Need-slice-read-indices
-slice-read-indices c = search needs
+slice-write-held-5 : tie.Need-slice-write-held-5
+slice-write-held-5 c = simp length-set (omega arith)
 
-mul-indices-4 : tie.Need-mul-indices-4
-mul-indices-4 c = search needs
-
-slice-write-indices-3 : tie.Need-slice-write-indices-3
-slice-write-indices-3 c = search needs
-
-same-length-7 : tie.Need-same-length-7
-same-length-7 c = search needs
-
-same-length-8 : tie.Need-same-length-8
-same-length-8 c = search needs
-
-same-length-9 : tie.Need-same-length-9
-same-length-9 c = search needs
+same-length-3 : tie.Need-same-length-3
+same-length-3 c = search needs
 
 returns-3 : tie.Need-returns-3
-returns-3 c = stored-stays _ _ _ _ _ _ _ _ _ _ (c .before .before .before .before .before .before .before .before .place .ensures) (omega arith) (c .before .before .before .shared .ensures) (c .before .if2 .left)
+returns-3 c =
+    stored-stays
+    (c .before .before .before .before .before .before .before .before .before .pre)
+    (c .before .before .before .before .before .before .if1 .left)
+    (c .before .before .shared .ensures)
+    (c .if2 .left)
 
 pub settle-spec : {M : Type 1} → statement M
 settle-spec =
     tie.close
     (tie.spec
-    place-requires
-    cast-words
-    mul-words
-    mul-words-2
-    slice-write-words
-    slice-write-residues
-    mul-indices
-    slice-write-indices
+    cast-held
+    mul-held
+    mul-held-2
+    slice-write-held
+    add-held
+    mul-held-3
+    slice-write-held-2
     same-length
-    same-length-2
-    same-length-3
     returns
     shared-slice-read-run
     shared-slice-read-run-2
@@ -186,29 +172,25 @@ settle-spec =
     cast-shared
     shared-requires
     add-run
-    cast-words-2
-    mul-words-3
-    add-words
-    mul-words-4
-    slice-write-words-2
-    slice-read-best
-    cast-if2
-    cast-residues
-    slice-write-residues-2
-    add-indices
-    cast-indices
-    mul-indices-2
-    slice-write-indices-2
-    same-length-4
-    same-length-5
-    same-length-6
+    add-pair
+    mul-pair
+    slice-read-pair
+    cast-held-2
+    mul-held-4
+    add-held-2
+    mul-held-5
+    slice-write-held-3
+    cast-held-3
+    add-held-3
+    mul-held-6
+    add-held-4
+    add-held-5
+    mul-held-7
+    slice-write-held-4
+    same-length-2
     returns-2
-    slice-write-residues-3
-    mul-indices-3
-    slice-read-indices
-    mul-indices-4
-    slice-write-indices-3
-    same-length-7
-    same-length-8
-    same-length-9
+    add-held-6
+    mul-held-8
+    slice-write-held-5
+    same-length-3
     returns-3)

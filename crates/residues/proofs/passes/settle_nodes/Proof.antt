@@ -1,25 +1,26 @@
--- `residues::passes::settle_nodes` meets its contract: at the loop's head the first i nodes of the list are settled.
+-- `residues::passes::settle_nodes` meets its contract. The loop's invariant: the first i nodes of the list are settled, and the words by
+-- which the pass goes are as they were. The measure is how many nodes are left.
 use Prim.Native.Nat.{_*_, _-_, _≤_}
 use native.Mathlib.Omega.{arith}
 use lib.ListN.{take}
-use Rattle.residues.specs.Passes.{Progress}
-use Rattle.residues.proofs.Visiting.{visitable, visited, visited-all}
+use Rattle.residues.specs.Passes.{Settled-to}
+use Rattle.residues.proofs.Visiting.{visit-start, visitable, visited, visited-all}
 use Rattle.residues.proofs.passes.settle_nodes.Statement.{statement}
 use Rattle.residues.proofs.passes.settle_nodes.Tie as tie
 
 abbrev Inv-loop : tie.InvT-loop
-Inv-loop picture steps table n nodes ws₀ residues₀ indices₀ i₀ ws residues indices i = (i ≤ nodes) × Progress n picture steps (take (3 * n) ws₀) ws residues indices i
+Inv-loop picture steps table n nodes ws₀ i₀ ws i = (i ≤ nodes) × Settled-to n picture steps (take (3 * n) ws₀) ws i
 
 abbrev μ-loop : tie.MeasureT-loop
-μ-loop picture steps table n nodes ws₀ residues₀ indices₀ i₀ ws residues indices i = nodes - i
+μ-loop picture steps table n nodes ws₀ i₀ ws i = nodes - i
 
 loop-holds : tie.Need-loop-holds Inv-loop μ-loop
-loop-holds c = (omega arith, c .before .before .before .before .before .pre .0 .1)
+loop-holds c = (omega arith, visit-start _ _ _ _ (c .before .before .before .pre .0 .1))
 
 visit-requires : tie.Need-visit-requires Inv-loop μ-loop
 visit-requires c κs =
-    let asked = c .before .before .before .before .before .before .before .before .before .before .pre in
-    (visitable (c .before .before .before .before .loop .inv .1) (c .before .before .before .loop-test .taken) (asked .0 .0), asked .1)
+    let start = c .before .before .before .before .before .before in
+    (visitable (start .args .steps .now) (c .before .before .loop .inv .1) (c .before .loop-test .taken) (start .pre .0 .0), start .pre .1)
 
 add-i : tie.Need-add-i Inv-loop μ-loop
 add-i c = omega arith
@@ -28,19 +29,16 @@ loop-less : tie.Need-loop-less Inv-loop μ-loop
 loop-less c = omega arith
 
 loop-again : tie.Need-loop-again Inv-loop μ-loop
-loop-again c = (omega arith, visited (c .before .before .before .before .before .before .before .before .before .before .before .loop .inv .1) (c .before .before .before .before .before .before .visit .ensures))
+loop-again c =
+    let at-loop = c .before .before .before .before .before in
+    let start = at-loop .before .before .before .before in
+    (omega arith, visited (start .args .steps .now) (at-loop .loop .inv .1) (c .before .before .visit .ensures))
 
 same-length : tie.Need-same-length Inv-loop μ-loop
-same-length c = omega (arith, c .before .loop .inv .1 .ws-size, c .before .before .before .before .before .before .before .pre .0 .1 .ws-size)
-
-same-length-2 : tie.Need-same-length-2 Inv-loop μ-loop
-same-length-2 c = omega (arith, c .before .loop .inv .1 .residues-size, c .before .before .before .before .before .before .before .pre .0 .1 .residues-size)
-
-same-length-3 : tie.Need-same-length-3 Inv-loop μ-loop
-same-length-3 c = omega (arith, c .before .loop .inv .1 .indices-size, c .before .before .before .before .before .before .before .pre .0 .1 .indices-size)
+same-length c = omega (arith, c .before .loop .inv .1 .ws-size, c .before .before .before .before .before .pre .0 .1)
 
 returns : tie.Need-returns Inv-loop μ-loop
-returns c = visited-all (c .before .loop .inv .1) _ (omega arith)
+returns c = visited-all (c .before .before .before .before .before .args .steps .now) (c .before .loop .inv .1) _ (omega arith)
 
 pub settle-nodes-spec : {M : Type 1} → statement M
 settle-nodes-spec =
@@ -54,6 +52,4 @@ settle-nodes-spec =
     loop-less
     loop-again
     same-length
-    same-length-2
-    same-length-3
     returns)

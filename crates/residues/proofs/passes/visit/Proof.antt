@@ -18,25 +18,28 @@ slice-read-r : tie.Need-slice-read-r
 slice-read-r c = search needs
 
 cast-r : tie.Need-cast-r
-cast-r c = omega (arith, visit-inside (c .before .before .before .before .before .before .pre .0))
+cast-r c = omega (arith, visit-inside (c .before .before .before .before .pre .0))
 
 add-a : tie.Need-add-a
-add-a c = omega (arith, visit-inside (c .before .before .before .before .before .before .pre .0))
+add-a c = omega (arith, visit-inside (c .before .before .before .before .pre .0))
 
 mul-a : tie.Need-mul-a
-mul-a c = omega (arith, visit-inside (c .before .before .before .before .before .before .pre .0))
+mul-a c = omega (arith, visit-inside (c .before .before .before .before .pre .0))
 
 slice-read-a : tie.Need-slice-read-a
-slice-read-a c = omega (arith, visit-inside (c .before .before .before .before .before .before .before .pre .0))
+slice-read-a c = omega (arith, visit-inside (c .before .before .before .before .before .pre .0))
 
 mul-parent : tie.Need-mul-parent
-mul-parent c = omega (arith, visit-inside (c .before .before .before .before .before .before .before .pre .0))
+mul-parent c = omega (arith, visit-inside (c .before .before .before .before .before .pre .0))
 
 slice-read-parent : tie.Need-slice-read-parent
-slice-read-parent c = omega (arith, visit-inside (c .before .before .before .before .before .before .before .before .pre .0))
+slice-read-parent c = omega (arith, visit-inside (c .before .before .before .before .before .before .pre .0))
 
 cast-parent : tie.Need-cast-parent
-cast-parent c = omega (arith, visit-parent (c .before .before .before .before .before .before .before .before .pre .0))
+cast-parent c = omega (arith, visit-parent (c .before .before .before .before .before .before .pre .0))
+
+place-requires : tie.Need-place-requires
+place-requires c κs = search needs
 
 mul-settle : tie.Need-mul-settle
 mul-settle c = search needs
@@ -57,26 +60,21 @@ part-settle-end : tie.Need-part-settle-end
 part-settle-end c = search needs
 
 settle-requires : tie.Need-settle-requires
-settle-requires c κs =
-    let asked = c .before .before .before .before .before .before .before .before .before .before .before .pre in
-    (visit-ready (asked .0), asked .1)
+settle-requires c κs = visit-ready (c .before .before .before .before .before .before .before .before .pre .0) (c .before .place .ensures)
 
 same-length : tie.Need-same-length
 same-length c = search needs
 
-same-length-2 : tie.Need-same-length-2
-same-length-2 c = search needs
-
-same-length-3 : tie.Need-same-length-3
-same-length-3 c = search needs
-
 returns : tie.Need-returns
 returns c =
+    let start = c .before .before .before .before .before .before .before .before .before .before .before in
+    let settled = c .before .before .settle in
     visit-settles
-    (c .before .before .before .before .before .before .before .before .before .before .before .before .before .before .before .before .before .before .pre .0)
-    (c .before .before .before .before .before .before .before .before .before .before .before .before .before .before .before .before .before .shared-slice-known .given _ .fits)
-    (c .before .before .before .before .before .before .settle .kept .1 .1 .1 .1 .1 .1 .0)
-    (c .before .before .before .before .before .before .settle .ensures)
+    (start .pre .0)
+    (c .before .before .before .before .place .ensures)
+    (c .before .before .before .before .before .before .before .before .before .before .shared-slice-known .given _ .fits)
+    (settled .kept .1 .1 .1 .1 .1 .0)
+    (settled .ensures)
 
 pub visit-spec : {M : Type 1} → statement M
 visit-spec =
@@ -93,6 +91,7 @@ visit-spec =
     mul-parent
     slice-read-parent
     cast-parent
+    place-requires
     mul-settle
     mul-settle-2
     mul-settle-3
@@ -101,6 +100,4 @@ visit-spec =
     part-settle-end
     settle-requires
     same-length
-    same-length-2
-    same-length-3
     returns)

@@ -1,6 +1,6 @@
 -- `residues::passes::write_maps` meets its contract.
 use borrow.Author.Needs.{needs}
-use Rattle.residues.proofs.Maps.{progress-begins, progress-spreads, passes-written}
+use Rattle.residues.proofs.Maps.{passes-spread, passes-written}
 use Rattle.residues.proofs.passes.write_maps.Statement.{statement}
 use Rattle.residues.proofs.passes.write_maps.Tie as tie
 
@@ -8,12 +8,13 @@ small-places-requires : tie.Need-small-places-requires
 small-places-requires c κs = search needs
 
 settle-nodes-requires : tie.Need-settle-nodes-requires
-settle-nodes-requires c κs =
-    let ready = c .before .before .before .before .before .before .before .before .before .before .pre in
-    ((ready .given, progress-begins ready), c .before .before .before .before .small-places .ensures)
+settle-nodes-requires c κs = search needs
 
 spread-requires : tie.Need-spread-requires
-spread-requires c κs = progress-spreads (c .before .before .before .before .before .before .before .before .before .before .before .before .before .before .before .before .before .before .before .before .pre .given) (c .before .before .before .before .before .before .before .before .before .settle-nodes .ensures)
+spread-requires c κs =
+    let settled = c .before .before .before .before .before in
+    let start = settled .before .before .before .before .before .before .before .before .before in
+    passes-spread (start .pre) (settled .settle-nodes .ensures)
 
 same-length : tie.Need-same-length
 same-length c = search needs
@@ -26,10 +27,12 @@ same-length-3 c = search needs
 
 returns : tie.Need-returns
 returns c =
+    let settled = c .before .before .before .before .before .before .before .before .before .before in
+    let lent = settled .before .before .before .before .before .before .before .before in
     passes-written
-    (c .before .before .before .before .before .before .before .before .before .before .before .before .before .before .before .before .before .before .before .before .before .before .before .before .before .pre .given)
-    (λ q. c .before .before .before .before .before .before .before .before .before .before .before .before .before .before .before .before .before .before .before .before .before .before .before .before .shared-slice-known .given q .fits)
-    (c .before .before .before .before .before .before .before .before .before .before .before .before .before .before .settle-nodes .ensures)
+    (lent .before .pre)
+    (settled .settle-nodes .ensures)
+    (λ q. lent .shared-slice-known .given q .fits)
     (c .before .before .before .before .spread .ensures)
 
 pub write-maps-spec : {M : Type 1} → statement M
