@@ -27,9 +27,9 @@ use Rattle.flood.specs.Calls.{Sized}
 use Rattle.max_tree.specs.Building.{Buildable, Ordered}
 use Rattle.max_tree.proofs.Agreeing.{listed-same}
 use Rattle.max_tree.proofs.Answering.{whole}
-use Rattle.residues.specs.Passes.{Given, Ready}
-use Rattle.residues.specs.Recorded.{Recorded, Written}
-use Rattle.residues.proofs.Climbing.{recorded-climbable}
+use Rattle.map_passes.specs.Passes.{Given, Ready}
+use Rattle.map_passes.specs.Recorded.{Recorded, Written}
+use Rattle.map_passes.proofs.Climbing.{recorded-climbable}
 
 -- where three parts are as they were, two are
 front : (n : ℕ) (ws ws' : List ℕ) → take (3 * n) ws' ≡ take (3 * n) ws → take (2 * n) ws' ≡ take (2 * n) ws

@@ -6,8 +6,6 @@ ghost use lib.Dec.{eqb};
 ghost use Rattle.calls.specs.Judging.{verdict-numbers};
 ghost use Rattle.calls.specs.Calls.{map-judged, call-workspace, map-residues, map-indices};
 
-mod passes;
-
 // Whether both maps have one entry for each pixel.
 fn maps_fit(width: u32, height: u32, residues: usize, indices: usize) -> bool
     ensures { λ r. ⌜ r ≡ (eqb residues (width * height) && eqb indices (width * height)) ⌝ }
@@ -29,10 +27,21 @@ pub fn map(
     residue: &mut [u8],
     index: &mut [u16],
 ) -> calls::Verdict
-    ensures answer { λ r. ⌜ verdict-numbers r ≡ verdict-numbers (map-judged width height attribute (now (steps .entry)) (now (picture .entry)) (now (workspace .entry)) (now (residue .entry)) (now (index .entry))) ⌝ }
-    ensures workspace { λ _. ⌜ now (workspace .exit) ≡ call-workspace (map-judged width height attribute (now (steps .entry)) (now (picture .entry)) (now (workspace .entry)) (now (residue .entry)) (now (index .entry))) width height attribute (now (picture .entry)) (now (workspace .entry)) ⌝ }
-    ensures residue { λ _. ⌜ now (residue .exit) ≡ map-residues width height attribute (now (steps .entry)) (now (picture .entry)) (now (workspace .entry)) (now (residue .entry)) (now (index .entry)) ⌝ }
-    ensures index { λ _. ⌜ now (index .exit) ≡ map-indices width height attribute (now (steps .entry)) (now (picture .entry)) (now (workspace .entry)) (now (residue .entry)) (now (index .entry)) ⌝ }
+    ensures answer { λ r. ⌜ verdict-numbers r
+        ≡ verdict-numbers
+        (map-judged width height attribute
+        (now (steps .entry)) (now (picture .entry)) (now (workspace .entry)) (now (residue .entry)) (now (index .entry))) ⌝ }
+    ensures workspace { λ _. ⌜ now (workspace .exit)
+        ≡ call-workspace
+        (map-judged width height attribute
+        (now (steps .entry)) (now (picture .entry)) (now (workspace .entry)) (now (residue .entry)) (now (index .entry)))
+        width height attribute (now (picture .entry)) (now (workspace .entry)) ⌝ }
+    ensures residue { λ _. ⌜ now (residue .exit)
+        ≡ map-residues width height attribute
+        (now (steps .entry)) (now (picture .entry)) (now (workspace .entry)) (now (residue .entry)) (now (index .entry)) ⌝ }
+    ensures index { λ _. ⌜ now (index .exit)
+        ≡ map-indices width height attribute
+        (now (steps .entry)) (now (picture .entry)) (now (workspace .entry)) (now (residue .entry)) (now (index .entry)) ⌝ }
 {
     let thresholds = calls::steps_good(steps);
     let outputs = maps_fit(width, height, residue.len(), index.len());
@@ -51,7 +60,7 @@ pub fn map(
         }
         calls::Verdict::Accepted => {
             let nodes = max_tree::build_ordered(picture, width, height, attribute, workspace);
-            passes::write_maps(picture, steps, nodes as usize, workspace, residue, index);
+            map_passes::write_maps(picture, steps, nodes as usize, workspace, residue, index);
             max_tree::clear_scratch(picture.len(), workspace);
             return calls::Verdict::Accepted;
         }

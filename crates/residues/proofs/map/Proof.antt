@@ -39,18 +39,20 @@ cast-write-maps c = search needs
 
 write-maps-requires : tie.Need-write-maps-requires
 write-maps-requires c κs =
-    passes-ask
-    (judged (c .before .before .before .before .before .before .before .before .before))
-    (c .before .before .before .before .before .before .before .enum-told .given .1)
-    (c .before .before .before .before .before .build-ordered .ensures)
+    let built = c .before .before .before .before .before in
+    let told = built .before .before in
+    passes-ask (judged (told .before .before)) (told .enum-told .given .1) (built .build-ordered .ensures)
 
 clear-scratch-requires : tie.Need-clear-scratch-requires
 clear-scratch-requires c κs =
+    let written = c .before .before .before .before .before .before .before in
+    let built = written .before .before .before .before .before .before in
+    let told = built .before .before in
     clearing-asks
-    (judged (c .before .before .before .before .before .before .before .before .before .before .before .before .before .before .before .before .before))
-    (c .before .before .before .before .before .before .before .before .before .before .before .before .before .before .before .enum-told .given .1)
-    (c .before .before .before .before .before .before .before .before .before .before .before .before .before .build-ordered .ensures)
-    (c .before .before .before .before .before .before .before .write-maps .kept .1 .1 .1 .0)
+    (judged (told .before .before))
+    (told .enum-told .given .1)
+    (built .build-ordered .ensures)
+    (written .write-maps .kept .1 .1 .1 .0)
 
 same-length : tie.Need-same-length
 same-length c = search needs
@@ -63,12 +65,16 @@ same-length-3 c = search needs
 
 returns-2 : tie.Need-returns-2
 returns-2 c =
+    let cleared = c .before .before in
+    let written = cleared .before .before .before .before .before .before .before .before in
+    let built = written .before .before .before .before .before .before in
+    let told = built .before .before in
     called-done
-    (judged (c .before .before .before .before .before .before .before .before .before .before .before .before .before .before .before .before .before .before .before .before))
-    (c .before .before .before .before .before .before .before .before .before .before .before .before .before .before .before .before .before .before .enum-told .given .1)
-    (c .before .before .before .before .before .before .before .before .before .before .before .before .before .before .before .before .build-ordered .ensures)
-    (c .before .before .before .before .before .before .before .before .before .before .write-maps .ensures)
-    (c .before .before .clear-scratch .ensures)
+    (judged (told .before .before))
+    (told .enum-told .given .1)
+    (built .build-ordered .ensures)
+    (written .write-maps .ensures)
+    (cleared .clear-scratch .ensures)
 
 pub map-spec : {M : Type 1} → statement M
 map-spec =
