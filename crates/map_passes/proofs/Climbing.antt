@@ -14,8 +14,8 @@ use Rattle.tree.specs.Tree.{representative, is-representative}
 use Rattle.tree.proofs.Words.{Positive}
 use Rattle.tree.proofs.Reading.{Reading, Up, at-marked, at-unmarked, at-representative, leads-self, leads-marked, leads-up}
 use Rattle.calls.specs.Calls.{grey}
-use Rattle.flood.specs.Flooding.{order-of}
-use Rattle.max_tree.specs.Listing.{Listed}
+use Rattle.levels.specs.Workspace.{order-of}
+use Rattle.listing.specs.Listing.{Listed}
 use Rattle.map_passes.specs.Passes.{Stands, stands, Climbable}
 use Rattle.map_passes.specs.Recorded.{Recorded}
 

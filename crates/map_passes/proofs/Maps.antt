@@ -14,9 +14,11 @@ use Rattle.sets.proofs.Tests.{decided, le-or-lt}
 use Rattle.opening.specs.Opening.{Increasing, at-least}
 use Rattle.opening.specs.Residue.{thresholds}
 use Rattle.opening.proofs.Residue.{thresholds-narrow}
-use Rattle.grid.specs.Neighbours.{edge-neighbours}
+use Rattle.grid.specs.Pixels.{pixels}
+use Rattle.grid.specs.Neighbours.{adjacent}
 use Rattle.grid.specs.Attributes.{attribute}
-use Rattle.grid.proofs.Attributes.{edge-symmetric, attribute-increasing, attribute-some}
+use Rattle.grid.specs.declared.Grid.{Grid}
+use Rattle.grid.proofs.Attributes.{adjacent-symmetric, attribute-increasing, attribute-some}
 use Rattle.grid.proofs.Whole.{grid-whole}
 use Rattle.calls.specs.Calls.{grey, residue-map, index-map}
 use Rattle.map_passes.specs.Passes.{Stands, Climbable, Given, held-of, Settled, Progress, Settled-to, holder, pair-at, Spreadable, Ready}
@@ -69,32 +71,32 @@ module _ {n nodes m : ℕ} {place : ℕ → ℕ} {picture words ws : List ℕ} (
   }
 
 -- on a grid the pass over the pixels leaves the maps
-module _ (w h a : ℕ) (wide : 1 ≤ w) {nodes : ℕ} {picture steps words ws : List ℕ}
-    (given : Given (w * h) nodes picture steps words) (prog : Settled-to (w * h) picture steps words ws nodes)
-    (recorded : Recorded (w * h) nodes (edge-neighbours w) (attribute w (w * h) a) picture words)
+module _ (grid : Grid) (a : ℕ) (wide : 1 ≤ grid .width) {nodes : ℕ} {picture steps words ws : List ℕ}
+    (given : Given (pixels grid) nodes picture steps words) (prog : Settled-to (pixels grid) picture steps words ws nodes)
+    (recorded : Recorded (pixels grid) nodes (adjacent grid) (attribute grid a) picture words)
     (bytes : (q : ℕ) → getD picture q 0 < 256) where
-  maps-grid : (table (w * h) (λ (q : ℕ). pair-at (w * h) ws q % 256) ≡ residue-map w h a steps picture)
-      × (table (w * h) (λ (q : ℕ). pair-at (w * h) ws q / 256) ≡ index-map w h a steps picture)
+  maps-grid : (table (pixels grid) (λ (q : ℕ). pair-at (pixels grid) ws q % 256) ≡ residue-map grid a steps picture)
+      × (table (pixels grid) (λ (q : ℕ). pair-at (pixels grid) ws q / 256) ≡ index-map grid a steps picture)
   unfolding residue-map index-map
   maps-grid =
-      let attr : Positions → ℕ = attribute w (w * h) a in
-      let rise : Increasing (w * h) attr = attribute-increasing w (w * h) a in
-      let whole = grid-whole w wide (w * h) (grey picture) in
+      let attr : Positions → ℕ = attribute grid a in
+      let rise : Increasing (pixels grid) attr = attribute-increasing grid a in
+      let whole = grid-whole grid wide (grey picture) in
       let right =
       holder-right
-      (edge-symmetric w)
-      (attribute-some w (w * h) a)
+      (adjacent-symmetric grid)
+      (attribute-some grid a)
       recorded
       whole
       (at-least attr 0)
       (thresholds attr steps)
-      (thresholds-narrow (w * h) attr rise 0 steps (given .rise))
+      (thresholds-narrow (pixels grid) attr rise 0 steps (given .rise))
       (length-map steps (at-least attr))
-      (places-right (edge-symmetric w) rise (attribute-some w (w * h) a) recorded whole steps (given .rise))
+      (places-right (adjacent-symmetric grid) rise (attribute-some grid a) recorded whole steps (given .rise))
       bytes
       (settled-all (given .climb) prog) in (
-        table-ext (w * h) _ _ (λ q b. rw (pair-found (given .climb) prog q b) (right q b .0)),
-        table-ext (w * h) _ _ (λ q b. rw (pair-found (given .climb) prog q b) (right q b .1)),
+        table-ext (pixels grid) _ _ (λ q b. rw (pair-found (given .climb) prog q b) (right q b .0)),
+        table-ext (pixels grid) _ _ (λ q b. rw (pair-found (given .climb) prog q b) (right q b .1)),
       )
 
 -- what the pass over the pixels is given, and what both passes leave
@@ -111,7 +113,7 @@ module _ {nodes : ℕ} {picture steps ws ws' residues indices : List ℕ} (ready
       record {
         kept = prog .kept;
         maps =
-            λ w h a wide size recorded.
-            let maps = maps-grid w h a wide (rw size at (ready .given)) (rw size at prog) recorded bytes in
+            λ grid a wide size recorded.
+            let maps = maps-grid grid a wide (rw size at (ready .given)) (rw size at prog) recorded bytes in
             (is-best ∙ rw size (maps .0), is-index ∙ rw size (maps .1));
       }

@@ -8,7 +8,7 @@ use lib.ListN.{length, getD, set, length-set}
 use borrow.Author.Tests.{eq-eqb, ne-eqb}
 use Rattle.sets.specs.Sets.{table}
 use Rattle.opening.proofs.Levels.{cond-case}
-use Rattle.flood.proofs.Tables.{as-table, stored-more}
+use Rattle.sets.proofs.Tables.{as-table, stored-more}
 use Rattle.map_passes.specs.Passes.{holder, Spreadable}
 
 pub holder-self : (p parent a : ℕ) → 0 < a → holder p parent a ≡ p

@@ -11,8 +11,9 @@ use lib.ListN.{length, getD, take, drop, length-take, length-drop}
 use borrow.Author.Tests.{eqb-true, eqb-false, lt-ltb, ltb-true}
 use borrow.Rule.Slice.PartMut.{putMid, mid-len, take-put, same-len-mid}
 use Rattle.sets.proofs.Tests.{decided, le-or-lt, last-or-below}
-use Rattle.flood.specs.Flooding.{order-of}
-use Rattle.max_tree.proofs.Listing.{listed-rises, listed-apart}
+use Rattle.levels.specs.Workspace.{order-of}
+use Rattle.listing.proofs.Listing.{listed-rises, listed-apart}
+use Rattle.causes.specs.Bounds.{words-a-pixel}
 use Rattle.places.specs.Places.{place-of}
 use Rattle.places.proofs.Places.{place-of-le, place-of-root}
 use Rattle.map_passes.specs.Settle.{Settleable, stored}
@@ -199,7 +200,7 @@ module _ {n : ℕ} {picture steps ws : List ℕ} {i : ℕ} (turn : Visitable n p
         (same-len-mid (3 * n) (5 * n - 3 * n) ws held same)
 
 -- at the start no node is settled
-pub visit-start : (n : ℕ) (picture steps ws : List ℕ) → length ws ≡ 6 * n → Settled-to n picture steps (take (3 * n) ws) ws 0
+pub visit-start : (n : ℕ) (picture steps ws : List ℕ) → length ws ≡ words-a-pixel * n → Settled-to n picture steps (take (3 * n) ws) ws 0
 visit-start n picture steps ws size = record { ws-size = size; kept = refl; done = λ j l. absurd (omega arith) }
 
 -- from one turn to the next the words stay

@@ -9,9 +9,10 @@ use lib.Dec.{eqb, ltb}
 use lib.ListN.{length, getD, take, drop}
 use Rattle.sets.specs.Sets.{Positions}
 use Rattle.opening.specs.Residue.{rising}
+use Rattle.causes.specs.Bounds.{words-a-pixel, most-steps}
 use Rattle.calls.specs.Calls.{grey}
-use Rattle.flood.specs.Flooding.{order-of}
-use Rattle.max_tree.specs.Listing.{Listed}
+use Rattle.levels.specs.Workspace.{order-of}
+use Rattle.listing.specs.Listing.{Listed}
 use Rattle.places.specs.Places.{place-of}
 use Rattle.map_passes.specs.Settle.{down, word-of, pair-of}
 
@@ -37,7 +38,7 @@ pub record Climbable (n nodes : ℕ) (picture words : List ℕ) : Type 0 where
 
 -- what both passes are given
 pub record Given (n nodes : ℕ) (picture steps words : List ℕ) : Type 0 where
-  pub few : length steps ≤ 256
+  pub few : length steps ≤ most-steps
   pub rise : rising 0 steps ≡ true
   pub size : length picture ≡ n
   pub nodes-fit : nodes ≤ n
@@ -64,7 +65,7 @@ held-of n ws = take (2 * n) (drop (3 * n) ws)
 
 -- the first i nodes of the list are settled, and the words are as they were
 pub record Progress (n m : ℕ) (place : ℕ → ℕ) (picture words ws : List ℕ) (i : ℕ) : Type 0 where
-  pub ws-size : length ws ≡ 6 * n
+  pub ws-size : length ws ≡ words-a-pixel * n
   pub kept : take (3 * n) ws ≡ words
   pub done : (j : ℕ) → j < i → Settled n m place picture words (held-of n ws) (order-of n words j)
 
@@ -89,7 +90,7 @@ pair-at n ws q = getD ws (4 * n + holder q (getD ws q 0) (getD ws (n + q) 0)) 0
 
 -- what the pass over the pixels needs: each pixel has a representative, and the index of its pair fits
 pub record Spreadable (n : ℕ) (ws : List ℕ) (residues indices : ℕ) : Type 0 where
-  pub ws-size : length ws ≡ 6 * n
+  pub ws-size : length ws ≡ words-a-pixel * n
   pub residues-size : residues ≡ n
   pub indices-size : indices ≡ n
   pub within : (q : ℕ) → q < n → getD ws q 0 < n
@@ -98,6 +99,6 @@ pub record Spreadable (n : ℕ) (ws : List ℕ) (residues indices : ℕ) : Type 
 -- what both passes are lent
 pub record Ready (picture steps : List ℕ) (nodes : ℕ) (ws residues indices : List ℕ) : Type 0 where
   pub given : Given (length picture) nodes picture steps (take (3 * length picture) ws)
-  pub ws-size : length ws ≡ 6 * length picture
+  pub ws-size : length ws ≡ words-a-pixel * length picture
   pub residues-size : length residues ≡ length picture
   pub indices-size : length indices ≡ length picture

@@ -8,6 +8,7 @@ use mathlib.Core.List.{List}
 use mathlib.Core.Path.{_≡_}
 use lib.Dec.{eqb, ltb}
 use lib.ListN.{length, getD, set}
+use Rattle.causes.specs.Bounds.{most-steps}
 
 -- the fall from r to its parent
 abbrev pub down : List ℕ → ℕ → ℕ → ℕ
@@ -32,7 +33,7 @@ pair-of m k fall word pair =
 
 -- what one node needs: its place among m steps, the parent darker and settled; the words of the nodes, run words and then pairs
 pub record Settleable (picture : List ℕ) (m k : ℕ) (held : List ℕ) (r parent : ℕ) : Type 0 where
-  pub few : m ≤ 256
+  pub few : m ≤ most-steps
   pub among : k ≤ m
   pub root : parent ≡ r → m ≤ k
   pub size : length held ≡ 2 * length picture

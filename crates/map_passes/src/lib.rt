@@ -6,6 +6,7 @@ ghost use mathlib.Core.Path.{_≡_};
 ghost use Prim.Native.Nat.{ℕ, _+_, _*_, _/_, _%_};
 ghost use lib.ListN.{length, take};
 ghost use Rattle.sets.specs.Sets.{table};
+ghost use Rattle.causes.specs.Bounds.{words-a-pixel};
 ghost use Rattle.places.specs.Places.{small-places};
 ghost use Rattle.map_passes.specs.Settle.{shared-fall, Settleable, stored};
 ghost use Rattle.map_passes.specs.Passes.{Given, Settled-to, Visitable, holder, pair-at, Spreadable, Ready};
@@ -63,7 +64,7 @@ fn settle_nodes(
     nodes: usize,
     ws: &mut [u32],
 )
-    requires { ⌜ Given n nodes (now picture) (now steps) (take (3 * n) (now ws)) × length (now ws) ≡ 6 * n ⌝ }
+    requires { ⌜ Given n nodes (now picture) (now steps) (take (3 * n) (now ws)) × length (now ws) ≡ words-a-pixel * n ⌝ }
     requires { ⌜ now table ≡ small-places (now steps) ⌝ }
     ensures { λ _. ⌜ Settled-to n (now (picture .entry)) (now (steps .entry)) (take (3 * n) (now (ws .entry))) (now (ws .exit)) nodes ⌝ }
 {

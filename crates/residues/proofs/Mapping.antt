@@ -1,31 +1,28 @@
 -- What a map call answers and writes: refused, it leaves all as it was; accepted, both passes over the record of the picture, and the
 -- record that is left. Assumes nothing.
 use Prim.Native.Nat.{ℕ, _+_, _*_, _≤_, _<_}
-use mathlib.Core.Bool.{Bool, _&&_}
 use mathlib.Core.List.{List, _++_}
 use mathlib.Core.Path.{_≡_, refl, sym, ap, _∙_}
 use native.Mathlib.Omega.{arith}
-use lib.Dec.{eqb}
 use lib.ListN.{length, getD, take, replicate, List·getD-append}
 use lib.Seq.{getD-take, length-take-le, take-take}
-use borrow.Author.Tests.{eqb-true}
 use Rattle.sets.proofs.Laws.{count-le}
-use Rattle.sets.proofs.Tests.{and-left, and-right}
-use Rattle.grid.specs.Neighbours.{edge-neighbours}
+use Rattle.grid.specs.Pixels.{pixels}
+use Rattle.grid.specs.Neighbours.{adjacent}
 use Rattle.grid.specs.Attributes.{attribute}
-use Rattle.grid.proofs.Attributes.{edge-symmetric, attribute-some}
+use Rattle.grid.specs.declared.Grid.{Grid}
+use Rattle.grid.proofs.Attributes.{adjacent-symmetric, attribute-some}
 use Rattle.tree.specs.Tree.{is-representative, number-of-nodes}
 use Rattle.tree.proofs.Words.{parent-at, attribute-at}
 use Rattle.causes.specs.declared.Cause.{Cause}
-use Rattle.calls.specs.Judging.{steps-good, call-verdict, verdict-numbers}
-use Rattle.calls.specs.Calls.{grey, record-of, call-workspace, map-judged, map-residues, map-indices}
+use Rattle.calls.specs.Judging.{verdict-numbers}
+use Rattle.calls.specs.Calls.{grey, record-of, Map-call, map-verdict, map-workspace, map-residue, map-index}
 use Rattle.calls.specs.declared.Verdict.{Verdict}
 use Rattle.calls.specs.declared.Verdict.the-variants.{Accepted, Refused}
-use Rattle.calls.proofs.Accepted.{Passed, passed, bounded, Step-list, step-list}
-use Rattle.flood.specs.Flooding.{order-of}
-use Rattle.flood.specs.Calls.{Sized}
+use Rattle.calls.proofs.Accepted.{Passed, Map-passed, map-passed, bounded, Step-list, step-list}
+use Rattle.levels.specs.Workspace.{order-of, Sized}
 use Rattle.max_tree.specs.Building.{Buildable, Ordered}
-use Rattle.max_tree.proofs.Agreeing.{listed-same}
+use Rattle.listing.proofs.Listing.{listed-same}
 use Rattle.max_tree.proofs.Answering.{whole}
 use Rattle.map_passes.specs.Passes.{Given, Ready}
 use Rattle.map_passes.specs.Recorded.{Recorded, Written}
@@ -36,128 +33,107 @@ front : (n : ℕ) (ws ws' : List ℕ) → take (3 * n) ws' ≡ take (3 * n) ws �
 front n ws ws' kept =
     sym (take-take (2 * n) (3 * n) ws' (omega arith)) ∙ ap (take (2 * n)) kept ∙ take-take (2 * n) (3 * n) ws (omega arith)
 
-module _ (w h a : ℕ) {picture ws : List ℕ} {nodes : ℕ} (built : Ordered (w * h) w a picture ws nodes) where
+module _ {grid : Grid} {a : ℕ} {picture ws : List ℕ} {nodes : ℕ} (built : Ordered grid a picture ws nodes) where
   -- the record with its scratch cleared
-  record-cleared : take (2 * (w * h)) ws ++ replicate (4 * (w * h)) 0 ≡ record-of w h a picture
-  record-cleared = whole w h a picture ws (take (2 * (w * h)) ws ++ replicate (4 * (w * h)) 0) nodes built refl .left
+  record-cleared : take (2 * (pixels grid)) ws ++ replicate (4 * (pixels grid)) 0 ≡ record-of grid a picture
+  record-cleared = whole (pixels grid) refl built refl .left
 
   -- the words of the first two parts are those of the record
-  tree-word : (x : ℕ) → x < 2 * (w * h) → getD (take (3 * (w * h)) ws) x 0 ≡ getD (record-of w h a picture) x 0
+  tree-word : (x : ℕ) → x < 2 * (pixels grid) → getD (take (3 * (pixels grid)) ws) x 0 ≡ getD (record-of grid a picture) x 0
   tree-word x b =
-      getD-take (3 * (w * h)) ws x 0 (omega arith)
-      ∙ sym (getD-take (2 * (w * h)) ws x 0 b)
+      getD-take (3 * (pixels grid)) ws x 0 (omega arith)
+      ∙ sym (getD-take (2 * (pixels grid)) ws x 0 b)
       ∙ sym
       (List·getD-append
-      (take (2 * (w * h)) ws)
-      (replicate (4 * (w * h)) 0)
+      (take (2 * (pixels grid)) ws)
+      (replicate (4 * (pixels grid)) 0)
       0
       x
-      (omega (arith, length-take-le (2 * (w * h)) ws (omega (arith, built .words)))))
+      (omega (arith, length-take-le (2 * (pixels grid)) ws (omega (arith, built .words)))))
       ∙ ap (λ (l : List ℕ). getD l x 0) record-cleared
 
   -- there are no more nodes than pixels
-  nodes-few : nodes ≤ w * h
+  nodes-few : nodes ≤ pixels grid
   unfolding number-of-nodes
-  nodes-few = rw (built .number) (count-le (w * h) (is-representative (w * h) (edge-neighbours w) (grey picture)))
+  nodes-few = rw (built .number) (count-le (pixels grid) (is-representative (pixels grid) (adjacent grid) (grey picture)))
 
-  place-word : (i : ℕ) → i < nodes → order-of (w * h) (take (3 * (w * h)) ws) i ≡ order-of (w * h) ws i
-  place-word i l = getD-take (3 * (w * h)) ws (2 * (w * h) + i) 0 (omega (arith, nodes-few))
+  place-word : (i : ℕ) → i < nodes → order-of (pixels grid) (take (3 * (pixels grid)) ws) i ≡ order-of (pixels grid) ws i
+  place-word i l = getD-take (3 * (pixels grid)) ws (2 * (pixels grid) + i) 0 (omega (arith, nodes-few))
 
-  ordered-recorded : Recorded (w * h) nodes (edge-neighbours w) (attribute w (w * h) a) picture (take (3 * (w * h)) ws)
+  ordered-recorded : Recorded (pixels grid) nodes (adjacent grid) (attribute grid a) picture (take (3 * (pixels grid)) ws)
   ordered-recorded = record {
-    parents = λ q b. tree-word q (omega arith) ∙ parent-at (w * h) (edge-neighbours w) (attribute w (w * h) a) (grey picture) q b;
+    parents = λ q b. tree-word q (omega arith) ∙ parent-at (pixels grid) (adjacent grid) (attribute grid a) (grey picture) q b;
     attributes =
-        λ q b. tree-word (w * h + q) (omega arith) ∙ attribute-at (w * h) (edge-neighbours w) (attribute w (w * h) a) (grey picture) q b;
+        λ q b. tree-word (pixels grid + q) (omega arith) ∙ attribute-at (pixels grid) (adjacent grid) (attribute grid a) (grey picture) q b;
     order = listed-same _ _ _ _ _ _ _ (λ q b. refl) place-word (built .order);
   }
 
--- the verdict on a map call
-pub record Judged (w h a : ℕ) (steps picture lent residues indices : List ℕ) (verdict : Verdict) : Type 0 where
-  pub same : verdict ≡ map-judged w h a steps picture lent residues indices
-
--- the verdict from what the tests of the steps and the maps answer
-pub judged-by : (w h a : ℕ) (steps picture lent residues indices : List ℕ) (thresholds outputs : Bool) (verdict : Verdict)
-    → verdict ≡ call-verdict w h a (length picture) thresholds (length lent) outputs
-    → thresholds ≡ steps-good steps → outputs ≡ (eqb (length residues) (w * h) && eqb (length indices) (w * h))
-    → Judged w h a steps picture lent residues indices verdict
-judged-by w h a steps picture lent residues indices thresholds outputs verdict judged good entries =
-    record { same = judged ∙ rw (good, entries) }
-
 -- what holds of the answer, the workspace and the maps after a call
-abbrev pub Called : ℕ → ℕ → ℕ → List ℕ → List ℕ → List ℕ → List ℕ → List ℕ → Verdict → List ℕ → List ℕ → List ℕ → Type 0
-Called w h a steps picture lent residues indices answer left best index =
-    (verdict-numbers answer ≡ verdict-numbers (map-judged w h a steps picture lent residues indices))
-    × ((left ≡ call-workspace (map-judged w h a steps picture lent residues indices) w h a picture lent)
-    × ((best ≡ map-residues w h a steps picture lent residues indices)
-    × (index ≡ map-indices w h a steps picture lent residues indices)))
+abbrev pub Called : Map-call → Verdict → List ℕ → List ℕ → List ℕ → Type 0
+Called call answer workspace residue index =
+    (verdict-numbers answer ≡ verdict-numbers (map-verdict call))
+    × ((workspace ≡ map-workspace call)
+    × ((residue ≡ map-residue call)
+    × (index ≡ map-index call)))
 
-module _ {w h a : ℕ} {steps picture lent residues indices : List ℕ} {verdict : Verdict}
-    (judged : Judged w h a steps picture lent residues indices verdict) where
+-- a call by the verdict that was found on it
+module _ (call : Map-call) {verdict : Verdict} (judged : verdict ≡ map-verdict call) where
   pub called-refused : {cause : Cause} → verdict ≡ Refused cause
-      → Called w h a steps picture lent residues indices (Refused cause) lent residues indices
-  unfolding call-workspace map-residues map-indices
+      → Called call (Refused cause) (call .workspace) (call .residue) (call .index)
+  unfolding map-workspace map-residue map-index
   called-refused {cause} refused =
-      let is : map-judged w h a steps picture lent residues indices ≡ Refused cause = sym (judged .same) ∙ refused in
+      let is : map-verdict call ≡ Refused cause = sym judged ∙ refused in
       rw is (refl, (refl, (refl, refl)))
 
   module _ (accepted : verdict ≡ Accepted) where
-    tests : Passed w h a (length picture) (steps-good steps) (length lent) (eqb (length residues) (w * h) && eqb (length indices) (w * h))
-    tests =
-        passed
-        w
-        h
-        a
-        (length picture)
-        (steps-good steps)
-        (length lent)
-        (eqb (length residues) (w * h) && eqb (length indices) (w * h))
-        (sym (judged .same) ∙ accepted)
+    passed : Map-passed call
+    passed = map-passed call (sym judged ∙ accepted)
 
-    pub build-asks : Buildable w h picture lent
-    build-asks = record { sides = tests .sides; bytes = tests .a-byte-each; words = tests .six-words-each }
+    common : Passed (call .grid) (length (call .picture)) (length (call .workspace))
+    common = passed .common
 
-    module _ {ws : List ℕ} {nodes : ℕ} (built : Ordered (w * h) w a picture ws nodes) where
-      pub passes-ask : Ready picture steps nodes ws residues indices
+    pub build-asks : Buildable (call .grid) (call .picture) (call .workspace)
+    build-asks = record { sides = common .sides; bytes = common .a-byte-each; words = common .words-each }
+
+    module _ {ws : List ℕ} {nodes : ℕ} (built : Ordered (call .grid) (call .attribute) (call .picture) ws nodes) where
+      pub passes-ask : Ready (call .picture) (call .steps) nodes ws (call .residue) (call .index)
       passes-ask =
-          let list : Step-list steps = step-list steps (tests .thresholds-good) in
-          let given : Given (w * h) nodes picture steps (take (3 * (w * h)) ws) = record {
+          let list : Step-list (call .steps) = step-list (call .steps) (passed .steps) in
+          let n : ℕ = pixels (call .grid) in
+          let given : Given n nodes (call .picture) (call .steps) (take (3 * n) ws) = record {
             few = list .not-more;
             rise = list .rises;
-            size = tests .a-byte-each;
-            nodes-fit = nodes-few w h a built;
-            climb = recorded-climbable (edge-symmetric w) (attribute-some w (w * h) a) (ordered-recorded w h a built);
+            size = common .a-byte-each;
+            nodes-fit = nodes-few built;
+            climb =
+                recorded-climbable
+                (adjacent-symmetric (call .grid))
+                (attribute-some (call .grid) (call .attribute))
+                (ordered-recorded built);
           } in
           record {
-            given = rw (tests .a-byte-each) given;
-            ws-size = rw (tests .a-byte-each) (built .words);
-            residues-size =
-                eqb-true
-                (length residues)
-                (w * h)
-                (and-left (eqb (length residues) (w * h)) (eqb (length indices) (w * h)) (tests .outputs-good))
-                ∙ sym (tests .a-byte-each);
-            indices-size =
-                eqb-true
-                (length indices)
-                (w * h)
-                (and-right (eqb (length residues) (w * h)) (eqb (length indices) (w * h)) (tests .outputs-good))
-                ∙ sym (tests .a-byte-each);
+            given = rw (common .a-byte-each) given;
+            ws-size = rw (common .a-byte-each) (built .words);
+            residues-size = passed .residue ∙ sym (common .a-byte-each);
+            indices-size = passed .index ∙ sym (common .a-byte-each);
           }
 
-      pub clearing-asks : {ws' : List ℕ} → length ws' ≡ length ws → Sized (length picture) ws'
+      pub clearing-asks : {ws' : List ℕ} → length ws' ≡ length ws → Sized (length (call .picture)) ws'
       clearing-asks same = record {
-        words = omega (arith, built .words, tests .a-byte-each);
-        small = omega (arith, bounded w h (tests .sides) .small, tests .a-byte-each);
+        words = omega (arith, built .words, common .a-byte-each);
+        small = omega (arith, bounded (call .grid .width) (call .grid .height) (common .sides) .small, common .a-byte-each);
       }
 
-      pub called-done : {ws' left best index : List ℕ} → Written picture steps nodes ws ws' best index
-          → left ≡ take (2 * length picture) ws' ++ replicate (4 * length picture) 0
-          → Called w h a steps picture lent residues indices Accepted left best index
-      unfolding call-workspace map-residues map-indices
+      pub called-done : {ws' left residue index : List ℕ} → Written (call .picture) (call .steps) nodes ws ws' residue index
+          → left ≡ take (2 * length (call .picture)) ws' ++ replicate (4 * length (call .picture)) 0
+          → Called call Accepted left residue index
+      unfolding map-workspace map-residue map-index
       called-done {ws'} {left} written cleared =
-          let is : map-judged w h a steps picture lent residues indices ≡ Accepted = sym (judged .same) ∙ accepted in
-          let maps =
-          written .maps w h a (bounded w h (tests .sides) .wide) (tests .a-byte-each) (ordered-recorded w h a built) in
-          let kept : take (2 * (w * h)) ws' ≡ take (2 * (w * h)) ws = front (w * h) ws ws' (rw (tests .a-byte-each) at (written .kept)) in
-          let cleaned : left ≡ record-of w h a picture = cleared ∙ rw (tests .a-byte-each, kept) (record-cleared w h a built) in
+          let n : ℕ = pixels (call .grid) in
+          let is : map-verdict call ≡ Accepted = sym judged ∙ accepted in
+          let wide = bounded (call .grid .width) (call .grid .height) (common .sides) .wide in
+          let maps = written .maps (call .grid) (call .attribute) wide (common .a-byte-each) (ordered-recorded built) in
+          let kept : take (2 * n) ws' ≡ take (2 * n) ws = front n ws ws' (rw (common .a-byte-each) at (written .kept)) in
+          let cleaned : left ≡ record-of (call .grid) (call .attribute) (call .picture) =
+          cleared ∙ rw (common .a-byte-each, kept) (record-cleared built) in
           rw is (refl, (cleaned, (maps .0, maps .1)))

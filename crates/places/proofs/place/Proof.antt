@@ -2,7 +2,7 @@
 use borrow.Author.Needs.{needs}
 use borrow.Author.Tests.{eq-eqb, ne-eqb}
 use Rattle.falls.specs.Falls.{places-before}
-use Rattle.flood.proofs.Tables.{table-read}
+use Rattle.sets.proofs.Tables.{table-read}
 use Rattle.places.specs.Places.{place-of}
 use Rattle.places.proofs.place.Statement.{statement}
 use Rattle.places.proofs.place.Tie as tie

@@ -6,7 +6,7 @@ use native.Mathlib.Omega.{arith}
 use lib.ListN.{getD, length, length-set}
 use borrow.Author.Needs.{needs}
 use Rattle.falls.specs.Falls.{places-before}
-use Rattle.flood.proofs.Tables.{as-table, stored-more}
+use Rattle.sets.proofs.Tables.{as-table, stored-more}
 use Rattle.places.proofs.small_places.Statement.{statement}
 use Rattle.places.proofs.small_places.Tie as tie
 

@@ -1,38 +1,84 @@
--- `residues::map` meets its contract.
+-- `residues::map` meets its contract. Assumes nothing.
+use mathlib.Core.Path.{_≡_}
+use denote.Ref.{now}
+use Rattle.causes.specs.declared.Cause.the-variants.{Steps, Workspace, Output}
+use Rattle.calls.specs.Calls.{Map-call, map-verdict}
+use Rattle.calls.proofs.Judging.{tested}
+use Rattle.residues.proofs.Mapping.{called-refused, build-asks, passes-ask, clearing-asks, called-done}
 use borrow.Author.Needs.{needs}
-use Rattle.residues.proofs.Mapping.{Judged, judged-by, called-refused, build-asks, passes-ask, clearing-asks, called-done}
 use Rattle.residues.proofs.map.Statement.{statement}
 use Rattle.residues.proofs.map.Tie as tie
+
+judge-picture-requires : tie.Need-judge-picture-requires
+judge-picture-requires c κs = search needs
 
 steps-good-requires : tie.Need-steps-good-requires
 steps-good-requires c κs = search needs
 
-maps-fit-requires : tie.Need-maps-fit-requires
-maps-fit-requires c κs = search needs
+also-requires : tie.Need-also-requires
+also-requires c κs = search needs
 
-judge-requires : tie.Need-judge-requires
-judge-requires c κs = search needs
+words-each-requires : tie.Need-words-each-requires
+words-each-requires c κs = search needs
+
+also-requires-2 : tie.Need-also-requires-2
+also-requires-2 c κs = search needs
+
+entry-each-requires : tie.Need-entry-each-requires
+entry-each-requires c κs = search needs
+
+also-requires-3 : tie.Need-also-requires-3
+also-requires-3 c κs = search needs
+
+entry-each-requires-2 : tie.Need-entry-each-requires-2
+entry-each-requires-2 c κs = search needs
+
+also-requires-4 : tie.Need-also-requires-4
+also-requires-4 c κs = search needs
 
 enum-known-verdict : tie.Need-enum-known-verdict
 enum-known-verdict c = search needs
 
--- the verdict is that of the call
-judged : (c : tie.After-judge)
-    → let a = c .before .before .before .before .before .before .before .before .args in
-    Judged
-    (a .width) (a .height) (a .attribute) (a .steps .now) (a .picture .now) (a .workspace .now) (a .residue .now) (a .index .now)
-    (c .judge .result)
+-- the call, and that the verdict found is the one on it
+abbrev call : tie.After-also4 → Map-call
+call c =
+    let named = c .before .before .before .before .before .before .before .before in
+    let a = named .before .before .before .before .before .before .args in
+    record {
+      picture = now (a .picture);
+      grid = a .grid;
+      attribute = a .attribute;
+      steps = now (a .steps);
+      workspace = now (a .workspace);
+      residue = now (a .residue);
+      index = now (a .index);
+    }
+
+judged : (c : tie.After-also4) → c .also4 .result ≡ map-verdict (call c)
 judged c =
-    judged-by _ _ _ _ _ _ _ _ _ _ _ (c .judge .ensures) (c .before .before .steps-good .ensures) (c .before .maps-fit .ensures)
+    let by-words = c .before .before .before .before in
+    let by-steps = by-words .before .before in
+    tested Output
+    (c .also4 .ensures)
+    (tested Output
+    (c .before .before .also3 .ensures)
+    (tested Workspace
+    (by-words .also2 .ensures)
+    (tested Steps (by-steps .also .ensures) (by-steps .before .before .judge-picture .ensures) (by-steps .before .steps-good .ensures))
+    (by-words .before .words-each .ensures))
+    (c .before .before .before .entry-each .ensures))
+    (c .before .entry-each2 .ensures)
 
 returns : tie.Need-returns
-returns c = called-refused (judged (c .before .before .before)) (c .before .verdict .given .1)
+returns c = let at = c .before .before .before in called-refused (call at) (judged at) (c .before .verdict .given .1)
 
 enum-told : tie.Need-enum-told
 enum-told c = search needs
 
 build-ordered-requires : tie.Need-build-ordered-requires
-build-ordered-requires c κs = build-asks (judged (c .before .before .before)) (c .before .enum-told .given .1)
+build-ordered-requires c κs =
+    let at = c .before .before .before in
+    build-asks (call at) (judged at) (c .before .enum-told .given .1)
 
 cast-write-maps : tie.Need-cast-write-maps
 cast-write-maps c = search needs
@@ -41,15 +87,16 @@ write-maps-requires : tie.Need-write-maps-requires
 write-maps-requires c κs =
     let built = c .before .before .before .before .before in
     let told = built .before .before in
-    passes-ask (judged (told .before .before)) (told .enum-told .given .1) (built .build-ordered .ensures)
+    let at = told .before .before in
+    passes-ask (call at) (judged at) (told .enum-told .given .1) (built .build-ordered .ensures)
 
 clear-scratch-requires : tie.Need-clear-scratch-requires
 clear-scratch-requires c κs =
     let written = c .before .before .before .before .before .before .before in
     let built = written .before .before .before .before .before .before in
     let told = built .before .before in
-    clearing-asks
-    (judged (told .before .before))
+    let at = told .before .before in
+    clearing-asks (call at) (judged at)
     (told .enum-told .given .1)
     (built .build-ordered .ensures)
     (written .write-maps .kept .1 .1 .1 .0)
@@ -69,8 +116,8 @@ returns-2 c =
     let written = cleared .before .before .before .before .before .before .before .before in
     let built = written .before .before .before .before .before .before in
     let told = built .before .before in
-    called-done
-    (judged (told .before .before))
+    let at = told .before .before in
+    called-done (call at) (judged at)
     (told .enum-told .given .1)
     (built .build-ordered .ensures)
     (written .write-maps .ensures)
@@ -80,9 +127,15 @@ pub map-spec : {M : Type 1} → statement M
 map-spec =
     tie.close
     (tie.spec
+    judge-picture-requires
     steps-good-requires
-    maps-fit-requires
-    judge-requires
+    also-requires
+    words-each-requires
+    also-requires-2
+    entry-each-requires
+    also-requires-3
+    entry-each-requires-2
+    also-requires-4
     enum-known-verdict
     returns
     enum-told
