@@ -11,10 +11,10 @@ use Rattle.sets.proofs.Laws.{count-le}
 use Rattle.grid.specs.Neighbours.{adjacent}
 use Rattle.grid.specs.declared.Grid.{Grid}
 use Rattle.sets.proofs.Tables.{table-long, table-read}
-use Rattle.levels.specs.Levels.{darker, grey, total, level-counts, starts-of}
+use Rattle.levels.specs.Levels.{grey, darker, level-counts, entry-sum, starts-of}
 use Rattle.levels.specs.Workspace.{Sized}
 use Rattle.levels.proofs.Counts.{by-cases, equal-or-not}
-use Rattle.levels.proofs.Tables.{total-darker}
+use Rattle.levels.proofs.Tables.{sum-darker}
 use Rattle.flooding.proofs.Beginning.{Untouched, begins, first-sound, first-at}
 use Rattle.flooding.proofs.Meeting.{tail-lt}
 use Rattle.queues.specs.Marks.{Marked}
@@ -23,17 +23,17 @@ use Rattle.visits.specs.Visits.{Ready}
 use Rattle.flood.specs.Calls.{Floodable}
 
 -- there is a first pixel
-pub some-pixel : {grid : Grid} {picture ws : List ℕ} → Floodable grid picture ws → 0 < length picture
-some-pixel F = rw (F .whole) (mul-pos (F .wide) (F .high))
+pub first-pixel : {grid : Grid} {picture ws : List ℕ} → Floodable grid picture ws → 0 < length picture
+first-pixel F = rw (F .whole) (mul-pos (F .wide) (F .high))
 
 -- all counts add up to the pixels
 pub counts-fit :
     (picture : List ℕ) {counts : List ℕ} → counts ≡ level-counts (length picture) picture → length picture ≤ 1048576
-    → total 256 (λ (k : ℕ). getD counts k 0) < 18446744073709551616
+    → entry-sum counts 256 < 2 ^ 64
 counts-fit picture {counts} C small =
     omega (
       arith,
-      total-darker picture counts (length picture) C 256 (omega arith),
+      sum-darker picture counts (length picture) C 256 (omega arith),
       count-le (length picture) (λ (q : ℕ). ltb (grey picture q) 256),
     )
 
@@ -102,10 +102,10 @@ module _ {grid : Grid} {picture ws ws₁ counts starts : List ℕ} (F : Floodabl
     (unmet-all : (q : ℕ) → q < length picture → getD ws₁ q 0 ≡ length picture)
   where
     some : 0 < length picture
-    some = some-pixel F
+    some = first-pixel F
 
     at-start : (k : ℕ) → k < 256 → getD starts k 0 ≡ darker (length picture) (grey picture) k
-    at-start k h = table-read _ T k h ∙ total-darker picture counts (length picture) C k (omega arith)
+    at-start k h = table-read _ T k h ∙ sum-darker picture counts (length picture) C k (omega arith)
 
     untouched :
         Untouched

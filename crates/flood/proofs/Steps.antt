@@ -1,8 +1,7 @@
 -- A step of the flood on the lists: a brighter neighbour moves it up, else the head moves on, and an empty level is closed.
 use Prim.Native.Nat.{ℕ, suc, _+_, _*_, _-_, _≤_, _<_}
-use mathlib.Core.Bool.{true}
 use mathlib.Core.List.{List}
-use mathlib.Core.Logic.{_⊎_, inl, inr}
+use mathlib.Core.Logic.{inl, inr}
 use mathlib.Core.Path.{_≡_, refl, _∙_}
 use native.Mathlib.Numerals.{add-one}
 use native.Mathlib.Omega.{arith}
@@ -15,7 +14,7 @@ use Rattle.grid.proofs.Sides.{adjacent-before}
 use Rattle.levels.specs.Levels.{grey}
 use Rattle.levels.specs.Tables.{Changed}
 use Rattle.levels.proofs.Counts.{by-cases}
-use Rattle.levels.proofs.Tables.{stored, total-raised, total-le}
+use Rattle.levels.proofs.Tables.{stored, sum-raised, sum-le}
 use Rattle.flooding.specs.Flooding.{Sound}
 use Rattle.flooding.proofs.Closing.{closed-sound, closed-at}
 use Rattle.flooding.proofs.Ending.{ends}
@@ -55,7 +54,7 @@ module _ {grid : Grid} {picture : List ℕ} {s s' : Lists} {l : ℕ} where
         (omega (
           arith,
           U .more,
-          total-raised
+          sum-raised
               256
               (λ (k : ℕ). getD (s' .heads) k 0)
               (λ (k : ℕ). getD (advanced (s' .heads) l) k 0)
@@ -163,8 +162,8 @@ module _ {grid : Grid} {picture : List ℕ} {s : Lists} {l : ℕ} where
       let t : (k : ℕ) → k < 256 → getD (s .tails) k 0 ≤ length picture = tail-le (R .sound) in
       omega (
         arith,
-        total-le 256 n (λ (k : ℕ). getD (s .tails) k 0) t,
-        total-le 256 n (λ (k : ℕ). getD (s .heads) k 0) (λ k hk. omega (arith, R .sound .high k hk, t k hk)),
+        sum-le 256 n (λ (k : ℕ). getD (s .tails) k 0) t,
+        sum-le 256 n (λ (k : ℕ). getD (s .heads) k 0) (λ k hk. omega (arith, R .sound .high k hk, t k hk)),
       )
 
   pub spent-falls :

@@ -3,11 +3,11 @@ use Prim.Native.Nat.{ℕ, _+_, _<_}
 use mathlib.Core.List.{List}
 use mathlib.Core.Logic.{_⊎_}
 use mathlib.Core.Path.{_≡_}
-use lib.ListN.{getD, length}
+use lib.ListN.{length}
 use Rattle.grid.specs.Pixels.{pixels}
 use Rattle.grid.specs.Neighbours.{adjacent}
 use Rattle.grid.specs.declared.Grid.{Grid}
-use Rattle.levels.specs.Levels.{grey, total}
+use Rattle.levels.specs.Levels.{grey, entry-sum}
 use Rattle.levels.specs.Workspace.{Sized, parent-of}
 use Rattle.flooding.specs.Flooding.{Flooded}
 use Rattle.queues.specs.Queues.{Lists}
@@ -15,7 +15,7 @@ use Rattle.visits.specs.Visits.{Ready}
 
 -- how far the heads and the tails have come
 abbrev pub spent : Lists → ℕ
-spent s = total 256 (λ (k : ℕ). getD (s .heads) k 0) + total 256 (λ (k : ℕ). getD (s .tails) k 0)
+spent s = entry-sum (s .heads) 256 + entry-sum (s .tails) 256
 
 -- the words of a workspace that the flood of a picture leaves
 abbrev pub FloodedBy : Grid → List ℕ → List ℕ → Type 0

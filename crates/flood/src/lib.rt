@@ -2,7 +2,7 @@
 // neither read nor written.
 pub use levels::fill;
 pub use levels::run_starts;
-ghost use Rattle.visits.specs.Visits.{lent, at-entry, at-exit, Ready};
+ghost use Rattle.visits.specs.Visits.{held, at-entry, at-exit, Ready};
 ghost use Rattle.flood.specs.Calls.{Stepped, Floodable, FloodedBy};
 use grid::Grid;
 
@@ -17,7 +17,7 @@ fn step(
     tails: &mut [usize; 256],
     roots: &mut [usize; 260],
 ) -> usize
-    requires { ⌜ Ready grid (now picture) (lent ws heads tails roots) level ⌝ }
+    requires { ⌜ Ready grid (now picture) (held ws heads tails roots) level ⌝ }
     ensures { λ r. ⌜ Stepped grid (now (picture .entry)) (at-entry ws heads tails roots) (at-exit ws heads tails roots) r ⌝ }
 {
     let r = visits::visit_around(picture, grid, level, ws, heads, tails, roots);
@@ -41,7 +41,7 @@ fn run(
     tails: &mut [usize; 256],
     roots: &mut [usize; 260],
 )
-    requires { ⌜ Ready grid (now picture) (lent ws heads tails roots) first ⌝ }
+    requires { ⌜ Ready grid (now picture) (held ws heads tails roots) first ⌝ }
     ensures { λ _. ⌜ FloodedBy grid (now (picture .entry)) (now (ws .exit)) ⌝ }
 {
     let mut level = first;

@@ -10,7 +10,7 @@ use Rattle.sets.proofs.Laws.{count-ext}
 use Rattle.connected.specs.Component.{Adjacency}
 use Rattle.levels.specs.Levels.{darker}
 use Rattle.levels.proofs.Counts.{by-cases, equal-or-not, darker-suc}
-use Rattle.flooding.specs.Flooding.{State, unmet, Sound, At, Pushed}
+use Rattle.flooding.specs.Flooding.{State, unmet-count, Sound, At, Pushed}
 use Rattle.flooding.proofs.Meeting.{met-sound}
 
 -- nothing is met, and every queue is empty at its run's start
@@ -23,9 +23,9 @@ pub record Untouched (n : ℕ) (g : ℕ → ℕ) (s : State) : Type 0 where
 module _ {n : ℕ} {g : ℕ → ℕ} {s : State} (B : Untouched n g s) where
   open Untouched B using (unmet-all, closed-all, heads, tails)
 
-  all-room : (k : ℕ) → k < 256 → s .tail k + unmet n g (s .par) k ≡ darker n g (suc k)
+  all-room : (k : ℕ) → k < 256 → s .tail k + unmet-count n g (s .par) k ≡ darker n g (suc k)
   all-room k hk =
-      let u : unmet n g (s .par) k ≡ count n (λ (q : ℕ). eqb (g q) k) =
+      let u : unmet-count n g (s .par) k ≡ count n (λ (q : ℕ). eqb (g q) k) =
       count-ext n _ _ (λ q hq. ap (λ b. b && eqb (g q) k) (eq-eqb (s .par q) n (unmet-all q hq)))
       in
       omega (arith, tails k hk, darker-suc n g k)

@@ -11,7 +11,7 @@ use Rattle.sets.proofs.Laws.{count-ext}
 use Rattle.connected.specs.Component.{Adjacency}
 use Rattle.levels.specs.Levels.{darker}
 use Rattle.levels.proofs.Counts.{by-cases, equal-or-not, below-or-not}
-use Rattle.flooding.specs.Flooding.{Joined, same, back, then, State, unmet, Contains, Links, Rooted, Opened, Placed, Place, Sound, At, Closed}
+use Rattle.flooding.specs.Flooding.{Joined, same, back, then, State, unmet-count, Contains, Links, Rooted, Opened, Placed, Place, Sound, At, Closed}
 use Rattle.flooding.proofs.Finishing.{Empty}
 use Rattle.flooding.proofs.Meeting.{tail-le, finished-kept}
 
@@ -114,7 +114,7 @@ module _ {n : ℕ} {adj : Adjacency} {g : ℕ → ℕ} {s s' : State} (S : Sound
             (λ dark. rw (only dark k hk ok lk, only dark j hj oj lj) same)
             (λ hm. then (back (anchor hm k hk ok lk)) (anchor hm j hj oj lj))
 
-    new-room : (k : ℕ) → k < 256 → s' .tail k + unmet n g (s' .par) k ≡ darker n g (suc k)
+    new-room : (k : ℕ) → k < 256 → s' .tail k + unmet-count n g (s' .par) k ≡ darker n g (suc k)
     new-room k hk =
         rw
         (C .tail k)

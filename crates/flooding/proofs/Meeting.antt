@@ -12,7 +12,7 @@ use Rattle.sets.proofs.Laws.{count-ext, count-le, count-some}
 use Rattle.connected.specs.Component.{Adjacency}
 use Rattle.levels.specs.Levels.{darker}
 use Rattle.levels.proofs.Counts.{by-cases, equal-or-not, below-or-not, count-without, darker-mono}
-use Rattle.flooding.specs.Flooding.{Joined, same, back, then, State, unmet, Contains, Links, Finished, Rooted, Opened, Placed, Place, Sound, At, Pushed}
+use Rattle.flooding.specs.Flooding.{Joined, same, back, then, State, unmet-count, Contains, Links, Finished, Rooted, Opened, Placed, Place, Sound, At, Pushed}
 
 false-and : (a b : Bool) → a ≡ false → a && b ≡ false
 false-and a b e = rw e refl
@@ -99,11 +99,11 @@ module _ {n : ℕ} {adj : Adjacency} {g : ℕ → ℕ} {s s' : State} (S : Sound
     was-open k hk h = ⊎-elim inl (λ ne. inr (rw (P .root .there k hk ne) at h)) (equal-or-not k l)
 
     -- the room in the run
-    room-here : s .tail l + suc (unmet n g (s' .par) l) ≡ darker n g (suc l)
+    room-here : s .tail l + suc (unmet-count n g (s' .par) l) ≡ darker n g (suc l)
     room-here =
         rw (sym less) at (S .room l lo)
       where
-        less : suc (unmet n g (s' .par) l) ≡ unmet n g (s .par) l
+        less : suc (unmet-count n g (s' .par) l) ≡ unmet-count n g (s .par) l
         less = sym
             (count-without
             n
@@ -115,7 +115,7 @@ module _ {n : ℕ} {adj : Adjacency} {g : ℕ → ℕ} {s s' : State} (S : Sound
             (false-and _ _ (ne-eqb (s' .par q) n (λ e. omega (arith, root-in, P .par .here))))
             (λ x hx ne. ap (λ (y : ℕ). eqb y n && eqb (g x) l) (P .par .there x hx ne)))
 
-    room-there : (k : ℕ) → k < 256 → (k ≡ l → ⊥) → unmet n g (s' .par) k ≡ unmet n g (s .par) k
+    room-there : (k : ℕ) → k < 256 → (k ≡ l → ⊥) → unmet-count n g (s' .par) k ≡ unmet-count n g (s .par) k
     room-there k hk ne = count-ext n _ _ (λ x hx. ⊎-elim (here x) (there x hx) (equal-or-not x q))
       where
         here : (x : ℕ) → x ≡ q → eqb (s' .par x) n && eqb (g x) k ≡ eqb (s .par x) n && eqb (g x) k
@@ -169,13 +169,13 @@ module _ {n : ℕ} {adj : Adjacency} {g : ℕ → ℕ} {s s' : State} (S : Sound
         }
 
     -- the fields one by one
-    new-room : (k : ℕ) → k < 256 → s' .tail k + unmet n g (s' .par) k ≡ darker n g (suc k)
+    new-room : (k : ℕ) → k < 256 → s' .tail k + unmet-count n g (s' .par) k ≡ darker n g (suc k)
     new-room k hk = ⊎-elim here there (equal-or-not k l)
       where
-        here : k ≡ l → s' .tail k + unmet n g (s' .par) k ≡ darker n g (suc k)
+        here : k ≡ l → s' .tail k + unmet-count n g (s' .par) k ≡ darker n g (suc k)
         here e = rw e (omega (arith, room-here, P .tail .here))
 
-        there : (k ≡ l → ⊥) → s' .tail k + unmet n g (s' .par) k ≡ darker n g (suc k)
+        there : (k ≡ l → ⊥) → s' .tail k + unmet-count n g (s' .par) k ≡ darker n g (suc k)
         there ne = rw (P .tail .there k hk ne, room-there k hk ne) (S .room k hk)
 
     new-placed : (k i : ℕ) → k < 256 → darker n g k ≤ i → i < s' .tail k → Placed n g s' k i

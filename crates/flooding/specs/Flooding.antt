@@ -27,8 +27,8 @@ pub record State : Type 0 where
   pub root : ℕ → ℕ
 
 -- how many pixels of grey l are not met
-abbrev pub unmet : ℕ → (ℕ → ℕ) → (ℕ → ℕ) → ℕ → ℕ
-unmet n g par l = count n (λ (q : ℕ). eqb (par q) n && eqb (g q) l)
+abbrev pub unmet-count : ℕ → (ℕ → ℕ) → (ℕ → ℕ) → ℕ → ℕ
+unmet-count n g par l = count n (λ (q : ℕ). eqb (par q) n && eqb (g q) l)
 
 -- G joins the ends of every edge of the picture's graph at level h
 abbrev pub Contains : ℕ → Adjacency → (ℕ → ℕ) → ℕ → Adjacency → Type 0
@@ -73,7 +73,7 @@ pub record Place (n : ℕ) (g : ℕ → ℕ) (s : State) (q : ℕ) : Type 0 wher
 pub record Sound (n : ℕ) (adj : Adjacency) (g : ℕ → ℕ) (s : State) : Type 0 where
   pub range : (q : ℕ) → q < n → s .par q ≤ n
   pub roots : (k : ℕ) → k < 256 → s .root k ≤ n
-  pub room : (k : ℕ) → k < 256 → s .tail k + unmet n g (s .par) k ≡ darker n g (suc k)
+  pub room : (k : ℕ) → k < 256 → s .tail k + unmet-count n g (s .par) k ≡ darker n g (suc k)
   pub low : (k : ℕ) → k < 256 → darker n g k ≤ s .head k
   pub high : (k : ℕ) → k < 256 → s .head k ≤ s .tail k
   pub placed : (k i : ℕ) → k < 256 → darker n g k ≤ i → i < s .tail k → Placed n g s k i

@@ -166,8 +166,8 @@ module _ (roots : List ℕ) (l v x : ℕ) (wide : length roots ≡ 260) (lo : l 
         (getD-set-other (set roots l v) (256 + l / 64) (256 + k / 64) x 0 (λ e. far (omega arith))
         ∙ getD-set-other roots l (256 + k / 64) v 0 (λ e. omega arith)))
 
-    pub opened : {n : ℕ} → Marked n roots → (v ≡ n → ⊥) → digit x (l % 64) ≡ 1 → Marked n (remarked roots l v x)
-    opened M not-n one =
+    pub mark-opened : {n : ℕ} → Marked n roots → (v ≡ n → ⊥) → digit x (l % 64) ≡ 1 → Marked n (remarked roots l v x)
+    mark-opened M not-n one =
         record {
           open-set = λ k h o.
               by-cases
@@ -181,8 +181,8 @@ module _ (roots : List ℕ) (l v x : ℕ) (wide : length roots ≡ 260) (lo : l 
               (λ ne. mark-there k h ne ∙ M .closed-clear k h (sym (root-stored .there k h ne) ∙ c));
         }
 
-    pub closed : {n : ℕ} → Marked n roots → v ≡ n → digit x (l % 64) ≡ 0 → Marked n (remarked roots l v x)
-    closed M is-n none =
+    pub mark-closed : {n : ℕ} → Marked n roots → v ≡ n → digit x (l % 64) ≡ 0 → Marked n (remarked roots l v x)
+    mark-closed M is-n none =
         record {
           open-set = λ k h o.
               by-cases
@@ -211,8 +211,8 @@ module _ {n : ℕ} {roots : List ℕ} {l : ℕ} (M : Marked n roots) (lo : l < 2
         ap₂ (λ (y z : ℕ). digit (getD roots (256 + y) 0) z) word place
         ∙ low-digit (getD roots (256 + i) 0) b (k - 64 * i) (omega arith)
 
-    none-in : getD roots (256 + i) 0 % 2 ^ b ≡ 0 → (k : ℕ) → 64 * i ≤ k → k < l → getD roots k 0 ≡ n
-    none-in none k ge lt =
+    none-within : getD roots (256 + i) 0 % 2 ^ b ≡ 0 → (k : ℕ) → 64 * i ≤ k → k < l → getD roots k 0 ≡ n
+    none-within none k ge lt =
         by-cases
         (below-or-not k (64 * i + b))
         (λ inside.
@@ -254,7 +254,7 @@ module _ {n : ℕ} {roots : List ℕ} {l : ℕ} (M : Marked n roots) (lo : l < 2
   pub own-none :
       getD roots (256 + l / 64) 0 % ((1 * 2 ^ (l % 64)) % 2 ^ 64) ≡ 0 → (k : ℕ) → 64 * (l / 64) ≤ k → k < l → getD roots k 0 ≡ n
   own-none none =
-      none-in M lo (l / 64) (l % 64) (omega arith) (omega arith) (λ k a b. absurd (omega arith)) (sym own-is ∙ none)
+      none-within M lo (l / 64) (l % 64) (omega arith) (omega arith) (λ k a b. absurd (omega arith)) (sym own-is ∙ none)
 
   pub own-next :
       {h : ℕ} → Highest (getD roots (256 + l / 64) 0 % ((1 * 2 ^ (l % 64)) % 2 ^ 64)) h → NextOpen n roots l (64 * (l / 64) + h)
@@ -270,7 +270,7 @@ module _ {n : ℕ} {roots : List ℕ} {l : ℕ} (M : Marked n roots) (lo : l < 2
 
     pub word-none : getD roots (256 + (i - 1)) 0 ≡ 0 → (k : ℕ) → 64 * (i - 1) ≤ k → k < l → getD roots k 0 ≡ n
     word-none none =
-        none-in M lo (i - 1) 64 within (omega arith) before (ap (λ (w : ℕ). w % 2 ^ 64) none)
+        none-within M lo (i - 1) 64 within (omega arith) before (ap (λ (w : ℕ). w % 2 ^ 64) none)
 
     pub word-next : {h : ℕ} → Highest (getD roots (256 + (i - 1)) 0) h → NextOpen n roots l (64 * (i - 1) + h)
     word-next H =

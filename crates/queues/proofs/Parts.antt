@@ -15,8 +15,8 @@ use Rattle.levels.proofs.Counts.{by-cases, equal-or-not}
 use Rattle.levels.proofs.Tables.{stored}
 use Rattle.flooding.specs.Flooding.{Pushed}
 use Rattle.queues.specs.Marks.{digit, mark}
-use Rattle.queues.specs.Queues.{lists, state-of, root-or, Fitting, Placing, NoneOpen, NextOpen, Next, Closable, ClosedBelow}
-use Rattle.queues.proofs.Marks.{set-here, set-there, bit-fits, clear-here, clear-there, one-shifted, remarked, remarked-wide, word-kept, root-stored, opened, closed}
+use Rattle.queues.specs.Queues.{lists, state-of, root-or, Fitting, Placing, NoneOpen, NextOpen, NextBelow, Closable, ClosedBelow}
+use Rattle.queues.proofs.Marks.{set-here, set-there, bit-fits, clear-here, clear-there, one-shifted, remarked, remarked-wide, word-kept, root-stored, mark-opened, mark-closed}
 
 pub root-or-open : (root n q : ℕ) → (root ≡ n → ⊥) → root-or root n q ≡ root
 root-or-open root n q ne = rw (ne-eqb root n ne) refl
@@ -56,8 +56,8 @@ module _ (n : ℕ) (ws : List ℕ) (size : length ws ≡ 6 * n) where
   order-kept q v h i = getD-set-other ws q (2 * n + i) v 0 (λ e. omega arith)
 
 -- the word that holds the bit of level l, and that word with the bit set and with the bit cleared
-abbrev pub word-of : List ℕ → ℕ → ℕ
-word-of roots l = getD roots (256 + l / 64) 0
+abbrev pub mark-word : List ℕ → ℕ → ℕ
+mark-word roots l = getD roots (256 + l / 64) 0
 
 abbrev pub with-level : ℕ → ℕ → ℕ
 with-level w l = bitOr w ((1 * 2 ^ (l % 64)) % 2 ^ 64)
@@ -98,10 +98,10 @@ pushed n q l r x ws heads tails roots F e =
 pub placing :
     {n q l r : ℕ} {ws tails roots : List ℕ} → Fitting n q l ws tails roots → r ≡ root-or (getD roots l 0) n q
     → Placing n q l ws tails roots (set (set ws q r) (2 * n + getD tails l 0) q) (set tails l (getD tails l 0 + 1))
-    (remarked roots l r (with-level (word-of (set roots l r) l) l))
+    (remarked roots l r (with-level (mark-word (set roots l r) l) l))
 placing {n} {q} {l} {r} {ws} {tails} {roots} F e =
-    let w = word-of roots l in
-    let x = with-level (word-of (set roots l r) l) l in
+    let w = mark-word roots l in
+    let x = with-level (mark-word (set roots l r) l) l in
     let is : x ≡ bitOr w (2 ^ (l % 64)) =
     ap₂ bitOr (word-kept roots l r x (F .wide-roots) (F .level)) (level-bit l)
     in
@@ -109,7 +109,7 @@ placing {n} {q} {l} {r} {ws} {tails} {roots} F e =
       wide-tails = length-set tails l _ ∙ F .wide-tails;
       wide-roots = remarked-wide roots l r x (F .wide-roots) (F .level);
       marks =
-          opened roots l r x (F .wide-roots) (F .level)
+          mark-opened roots l r x (F .wide-roots) (F .level)
           (λ i ne. ap (λ (y : ℕ). digit y i) is ∙ set-there w (l % 64) i ne)
           (F .marks)
           (λ z. omega (arith, root-or-lt (getD roots l 0) n q (F .root) (F .within)))
@@ -118,15 +118,15 @@ placing {n} {q} {l} {r} {ws} {tails} {roots} F e =
     }
 
 -- the bit of an open level is set, so it can be taken away
-level-set : {n l : ℕ} {ws roots : List ℕ} → Closable n ws roots l → mark roots l ≡ 1
-level-set {l = l} C = C .marks .open-set l (C .level) (λ e. omega (arith, C .open-here))
+level-marked : {n l : ℕ} {ws roots : List ℕ} → Closable n ws roots l → mark roots l ≡ 1
+level-marked {l = l} C = C .marks .open-set l (C .level) (λ e. omega (arith, C .open-here))
 
 pub level-fits :
-    {n l : ℕ} {ws roots : List ℕ} → Closable n ws roots l → (1 * 2 ^ (l % 64)) % 2 ^ 64 ≤ word-of (set roots l n) l
+    {n l : ℕ} {ws roots : List ℕ} → Closable n ws roots l → (1 * 2 ^ (l % 64)) % 2 ^ 64 ≤ mark-word (set roots l n) l
 level-fits {n} {l} {ws} {roots} C =
     rw
     (level-bit l, word-kept roots l n 0 (C .wide-roots) (C .level))
-    (bit-fits (word-of roots l) (l % 64) (level-set C))
+    (bit-fits (mark-word roots l) (l % 64) (level-marked C))
 
 -- the root of the next open level stays, and is a pixel
 next-kept :
@@ -141,21 +141,21 @@ next-kept {n} {l} {m} {ws} {roots} C N x =
 
 pub next-small :
     {n l m : ℕ} {ws roots : List ℕ} → Closable n ws roots l → NextOpen n roots l m
-    → getD (remarked roots l n (without-level (word-of (set roots l n) l) l)) m 0 ≤ 1048576
+    → getD (remarked roots l n (without-level (mark-word (set roots l n) l) l)) m 0 ≤ 1048576
 next-small {n} {l} {m} {ws} {roots} C N =
-    let e = next-kept C N (without-level (word-of (set roots l n) l) l) in
+    let e = next-kept C N (without-level (mark-word (set roots l n) l) l) in
     omega (arith, C .within m (omega (arith, N .lower, C .level)), C .sized .small)
 
 pub closing :
     {n l m : ℕ} {ws roots : List ℕ} → Closable n ws roots l → NextOpen n roots l m
     → ClosedBelow n ws roots
-    (set ws (getD roots l 0) (getD (remarked roots l n (without-level (word-of (set roots l n) l) l)) m 0))
-    (remarked roots l n (without-level (word-of (set roots l n) l) l))
+    (set ws (getD roots l 0) (getD (remarked roots l n (without-level (mark-word (set roots l n) l) l)) m 0))
+    (remarked roots l n (without-level (mark-word (set roots l n) l) l))
     l
     m
 closing {n} {l} {m} {ws} {roots} C N =
-    let w = word-of roots l in
-    let x = without-level (word-of (set roots l n) l) l in
+    let w = mark-word roots l in
+    let x = without-level (mark-word (set roots l n) l) l in
     let is : x ≡ w - 2 ^ (l % 64) =
     ap₂ (λ (y z : ℕ). y - z) (word-kept roots l n x (C .wide-roots) (C .level)) (level-bit l)
     in
@@ -169,11 +169,11 @@ closing {n} {l} {m} {ws} {roots} C N =
       next-open = N;
       wide-roots = remarked-wide roots l n x (C .wide-roots) (C .level);
       marks =
-          closed roots l n x (C .wide-roots) (C .level)
-          (λ i ne. ap (λ (y : ℕ). digit y i) is ∙ clear-there w (l % 64) i (level-set C) ne)
+          mark-closed roots l n x (C .wide-roots) (C .level)
+          (λ i ne. ap (λ (y : ℕ). digit y i) is ∙ clear-there w (l % 64) i (level-marked C) ne)
           (C .marks)
           refl
-          (ap (λ (y : ℕ). digit y (l % 64)) is ∙ clear-here w (l % 64) (level-set C));
+          (ap (λ (y : ℕ). digit y (l % 64)) is ∙ clear-here w (l % 64) (level-marked C));
       step = λ heads tails.
           record {
             par = record { here = A .here ∙ e; there = A .there };
@@ -185,7 +185,7 @@ closing {n} {l} {m} {ws} {roots} C N =
     }
 
 -- what the search below a level found
-module _ {n : ℕ} {roots : List ℕ} {l m : ℕ} (F : Next n roots l m) where
+module _ {n : ℕ} {roots : List ℕ} {l m : ℕ} (F : NextBelow n roots l m) where
   pub found : (m ≡ 256 → ⊥) → NextOpen n roots l m
   found ne = by-cases F (λ N. N) (λ w. absurd (ne (w .0)))
 

@@ -67,8 +67,8 @@ pub record NextOpen (n : ℕ) (roots : List ℕ) (l m : ℕ) : Type 0 where
   pub next : (k : ℕ) → m < k → k < l → getD roots k 0 ≡ n
 
 -- the search below level l answers m: the brightest open level there, 256 where there is none
-abbrev pub Next : ℕ → List ℕ → ℕ → ℕ → Type 0
-Next n roots l m = NextOpen n roots l m ⊎ ((m ≡ 256) × NoneOpen n roots l)
+abbrev pub NextBelow : ℕ → List ℕ → ℕ → ℕ → Type 0
+NextBelow n roots l m = NextOpen n roots l m ⊎ ((m ≡ 256) × NoneOpen n roots l)
 
 -- level l is open, and its node can be closed
 pub record Closable (n : ℕ) (ws roots : List ℕ) (l : ℕ) : Type 0 where

@@ -3,7 +3,7 @@
 ghost use mathlib.Core.Path.{_≡_};
 ghost use Prim.Native.Nat.{_<_};
 ghost use Rattle.queues.specs.Marks.{Marked, Highest};
-ghost use Rattle.queues.specs.Queues.{root-or, Fitting, Placing, Next, Closable, ClosedTo};
+ghost use Rattle.queues.specs.Queues.{root-or, Fitting, Placing, NextBelow, Closable, ClosedTo};
 
 fn root_or(root: usize, n: usize, q: usize) -> usize
     ensures { λ r. ⌜ r ≡ root-or root n q ⌝ }
@@ -48,7 +48,7 @@ fn highest(word: usize) -> usize
 fn open_below(level: usize, n: usize, roots: &[usize; 260]) -> usize
     requires { ⌜ level < 256 ⌝ }
     requires { ⌜ Marked n (now roots) ⌝ }
-    ensures { λ r. ⌜ Next n (now (roots .entry)) level r ⌝ }
+    ensures { λ r. ⌜ NextBelow n (now (roots .entry)) level r ⌝ }
 {
     let mut i = level / 64;
     let own = roots[256 + i] % (1 << (level % 64));

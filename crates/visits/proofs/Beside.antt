@@ -25,11 +25,11 @@ unfolding adjacent
 beside grid p q e = e
 
 -- and a neighbour is on one of the four sides
-abbrev pub either : (Grid → ℕ → Positions) → (Grid → ℕ → Positions) → Grid → ℕ → Positions
-either one other grid p q = one grid p q || other grid p q
+abbrev pub either-side : (Grid → ℕ → Positions) → (Grid → ℕ → Positions) → Grid → ℕ → Positions
+either-side one other grid p q = one grid p q || other grid p q
 
 abbrev pub around : Grid → ℕ → Positions
-around = either (either (either above left-of) right-of) below
+around = either-side (either-side (either-side above left-of) right-of) below
 
 pub all-around : (grid : Grid) (p q : ℕ) → adjacent grid p q ≡ true → around grid p q ≡ true
 unfolding adjacent
@@ -38,8 +38,8 @@ all-around grid p q e = sides (side-of (grid .width) p q e)
     sides :
         ((right-of grid p q ≡ true) ⊎ (below grid p q ≡ true)) ⊎ ((left-of grid p q ≡ true) ⊎ (above grid p q ≡ true))
         → around grid p q ≡ true
-    sides (inl (inl e)) = or-left _ _ (or-right (either above left-of grid p q) _ e)
-    sides (inl (inr e)) = or-right (either (either above left-of) right-of grid p q) _ e
+    sides (inl (inl e)) = or-left _ _ (or-right (either-side above left-of grid p q) _ e)
+    sides (inl (inr e)) = or-right (either-side (either-side above left-of) right-of grid p q) _ e
     sides (inr (inl e)) = or-left _ _ (or-left _ _ (or-right (above grid p q) _ e))
     sides (inr (inr e)) = or-left _ _ (or-left _ _ (or-left (above grid p q) _ e))
 

@@ -12,10 +12,10 @@ use Rattle.sets.specs.Sets.{Positions}
 use Rattle.sets.proofs.Tests.{or-cases}
 use Rattle.grid.specs.Neighbours.{adjacent}
 use Rattle.grid.specs.declared.Grid.{Grid}
-use Rattle.levels.specs.Levels.{grey, total}
+use Rattle.levels.specs.Levels.{grey, entry-sum}
 use Rattle.levels.specs.Workspace.{parent-of}
 use Rattle.levels.proofs.Counts.{by-cases}
-use Rattle.levels.proofs.Tables.{total-raised}
+use Rattle.levels.proofs.Tables.{sum-raised}
 use Rattle.flooding.proofs.Meeting.{met-sound, met-at, met-ord, keep-met, now-met, tail-le, tail-lt, reaches}
 use Rattle.queues.specs.Queues.{Lists, lists, Fitting, Placing}
 use Rattle.visits.specs.Visits.{head-pixel, Ready, Standing, Visiting, Visited}
@@ -150,8 +150,8 @@ module _ {grid : Grid} {picture : List ℕ} {s : Lists} where
         let R = U .ready in
         let A = R .at in
         let step = P .step (s .heads) in
-        let raise : total 256 (λ (k : ℕ). getD tails' k 0) ≡ suc (total 256 (λ (k : ℕ). getD (s .tails) k 0)) =
-        total-raised 256 _ _ (grey picture q) (R .bytes q) (step .tail .here) (step .tail .there)
+        let raise : entry-sum tails' 256 ≡ suc (entry-sum (s .tails) 256) =
+        sum-raised 256 _ _ (grey picture q) (R .bytes q) (step .tail .here) (step .tail .there)
         in
         record {
           ready =

@@ -10,7 +10,7 @@ use Rattle.sets.specs.Sets.{Positions}
 use Rattle.grid.specs.Pixels.{pixels}
 use Rattle.grid.specs.Neighbours.{next-in-row, next-in-column, adjacent}
 use Rattle.grid.specs.declared.Grid.{Grid}
-use Rattle.levels.specs.Levels.{grey, total}
+use Rattle.levels.specs.Levels.{grey, entry-sum}
 use Rattle.levels.specs.Workspace.{Sized, parent-of, order-of}
 use Rattle.flooding.specs.Flooding.{Sound, At}
 use Rattle.queues.specs.Marks.{Marked}
@@ -20,14 +20,14 @@ use Rattle.queues.specs.Queues.{Lists, lists, state-of}
 abbrev Lent : Type 0
 Lent = RefT (List ℕ)
 
-abbrev pub lent : Lent → Lent → Lent → Lent → Lists
-lent ws heads tails roots = lists (now ws) (now heads) (now tails) (now roots)
+abbrev pub held : Lent → Lent → Lent → Lent → Lists
+held ws heads tails roots = lists (now ws) (now heads) (now tails) (now roots)
 
 abbrev pub at-entry : Both Lent Lent → Both Lent Lent → Both Lent Lent → Both Lent Lent → Lists
-at-entry ws heads tails roots = lent (ws .entry) (heads .entry) (tails .entry) (roots .entry)
+at-entry ws heads tails roots = held (ws .entry) (heads .entry) (tails .entry) (roots .entry)
 
 abbrev pub at-exit : Both Lent Lent → Both Lent Lent → Both Lent Lent → Both Lent Lent → Lists
-at-exit ws heads tails roots = lent (ws .exit) (heads .exit) (tails .exit) (roots .exit)
+at-exit ws heads tails roots = held (ws .exit) (heads .exit) (tails .exit) (roots .exit)
 
 -- the pixel at the head of level l
 abbrev pub head-pixel : ℕ → Lists → ℕ → ℕ
@@ -77,8 +77,8 @@ pub record Visited (grid : Grid) (picture : List ℕ) (s s' : Lists) (l r : ℕ)
   pub same-heads : s' .heads ≡ s .heads
   pub same-head : head-pixel (length picture) s' l ≡ head-pixel (length picture) s l
   pub kept : (x : ℕ) → x < length picture → parent-of (s .words) x < length picture → parent-of (s' .words) x < length picture
-  pub more : total 256 (λ (k : ℕ). getD (s .tails) k 0) ≤ total 256 (λ (k : ℕ). getD (s' .tails) k 0)
-  pub raised : (r ≡ l → ⊥) → total 256 (λ (k : ℕ). getD (s .tails) k 0) < total 256 (λ (k : ℕ). getD (s' .tails) k 0)
+  pub more : entry-sum (s .tails) 256 ≤ entry-sum (s' .tails) 256
+  pub raised : (r ≡ l → ⊥) → entry-sum (s .tails) 256 < entry-sum (s' .tails) 256
   pub met : r ≡ l → (x : ℕ) → x < length picture → side x ≡ true → parent-of (s' .words) x < length picture
 
 -- the same of all its neighbours

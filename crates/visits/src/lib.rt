@@ -2,7 +2,7 @@
 ghost use mathlib.Core.Path.{_≡_};
 ghost use Prim.Native.Nat.{_%_};
 ghost use lib.Dec.{eqb};
-ghost use Rattle.visits.specs.Visits.{lent, at-entry, at-exit, Ready, Standing, Visiting, above, left-of, right-of, below, Visited, AllVisited};
+ghost use Rattle.visits.specs.Visits.{held, at-entry, at-exit, Ready, Standing, Visiting, above, left-of, right-of, below, Visited, AllVisited};
 use grid::Grid;
 
 // Visits the pixel q, a neighbour of the one at the head of the current level: it is put into its queue unless it is met. The answer is
@@ -17,7 +17,7 @@ fn visit(
     tails: &mut [usize; 256],
     roots: &mut [usize; 260],
 ) -> usize
-    requires { ⌜ Visiting grid (now picture) (lent ws heads tails roots) level q ⌝ }
+    requires { ⌜ Visiting grid (now picture) (held ws heads tails roots) level q ⌝ }
     ensures { λ r. ⌜ Visited grid (now (picture .entry)) (at-entry ws heads tails roots) (at-exit ws heads tails roots) level r (eqb q) ⌝ }
 {
     let n = picture.len();
@@ -43,7 +43,7 @@ fn visit_up(
     tails: &mut [usize; 256],
     roots: &mut [usize; 260],
 ) -> usize
-    requires { ⌜ Standing grid (now picture) (lent ws heads tails roots) level p ⌝ }
+    requires { ⌜ Standing grid (now picture) (held ws heads tails roots) level p ⌝ }
     ensures { λ r. ⌜ Visited grid (now (picture .entry)) (at-entry ws heads tails roots) (at-exit ws heads tails roots) level r (above grid p) ⌝ }
 {
     let width = grid.width as usize;
@@ -64,7 +64,7 @@ fn visit_down(
     tails: &mut [usize; 256],
     roots: &mut [usize; 260],
 ) -> usize
-    requires { ⌜ Standing grid (now picture) (lent ws heads tails roots) level p ⌝ }
+    requires { ⌜ Standing grid (now picture) (held ws heads tails roots) level p ⌝ }
     ensures { λ r. ⌜ Visited grid (now (picture .entry)) (at-entry ws heads tails roots) (at-exit ws heads tails roots) level r (below grid p) ⌝ }
 {
     let width = grid.width as usize;
@@ -86,7 +86,7 @@ fn visit_left(
     tails: &mut [usize; 256],
     roots: &mut [usize; 260],
 ) -> usize
-    requires { ⌜ Standing grid (now picture) (lent ws heads tails roots) level p ⌝ }
+    requires { ⌜ Standing grid (now picture) (held ws heads tails roots) level p ⌝ }
     requires { ⌜ column ≡ p % grid .width ⌝ }
     ensures { λ r. ⌜ Visited grid (now (picture .entry)) (at-entry ws heads tails roots) (at-exit ws heads tails roots) level r (left-of grid p) ⌝ }
 {
@@ -108,7 +108,7 @@ fn visit_right(
     tails: &mut [usize; 256],
     roots: &mut [usize; 260],
 ) -> usize
-    requires { ⌜ Standing grid (now picture) (lent ws heads tails roots) level p ⌝ }
+    requires { ⌜ Standing grid (now picture) (held ws heads tails roots) level p ⌝ }
     requires { ⌜ column ≡ p % grid .width ⌝ }
     ensures { λ r. ⌜ Visited grid (now (picture .entry)) (at-entry ws heads tails roots) (at-exit ws heads tails roots) level r (right-of grid p) ⌝ }
 {
@@ -129,7 +129,7 @@ pub fn visit_around(
     tails: &mut [usize; 256],
     roots: &mut [usize; 260],
 ) -> usize
-    requires { ⌜ Ready grid (now picture) (lent ws heads tails roots) level ⌝ }
+    requires { ⌜ Ready grid (now picture) (held ws heads tails roots) level ⌝ }
     ensures { λ r. ⌜ AllVisited grid (now (picture .entry)) (at-entry ws heads tails roots) (at-exit ws heads tails roots) level r ⌝ }
 {
     let n = picture.len();

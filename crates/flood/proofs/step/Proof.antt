@@ -2,7 +2,7 @@
 use native.Mathlib.Omega.{arith}
 use borrow.Author.Needs.{needs}
 use Rattle.queues.specs.Queues.{Lists, lists}
-use Rattle.visits.specs.Visits.{lent, AllVisited}
+use Rattle.visits.specs.Visits.{held, AllVisited}
 use Rattle.visits.proofs.Visits.{head-in, settle}
 use Rattle.flood.proofs.Steps.{moves, goes-on, closable, empties}
 use Rattle.flood.proofs.step.Statement.{statement}
@@ -20,7 +20,7 @@ after c =
 stayed :
     (c : tie.Else1)
     → let at = start c .args in
-    AllVisited (at .grid) (at .picture .now) (lent (at .ws) (at .heads) (at .tails) (at .roots)) (after c) (at .level) (at .level)
+    AllVisited (at .grid) (at .picture .now) (held (at .ws) (at .heads) (at .tails) (at .roots)) (after c) (at .level) (at .level)
 stayed c = settle (c .before .before .before .visit-around .ensures) (c .if1 .left)
 
 visit-around-requires : tie.Need-visit-around-requires

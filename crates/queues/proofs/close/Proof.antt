@@ -3,9 +3,20 @@ use mathlib.Core.Logic.{inl, inr}
 use mathlib.Core.Path.{refl}
 use native.Mathlib.Omega.{arith}
 use borrow.Author.Needs.{needs}
+use Rattle.queues.specs.Queues.{NextOpen}
 use Rattle.queues.proofs.Parts.{found, found-none, level-fits, next-small, closing}
 use Rattle.queues.proofs.close.Statement.{statement}
 use Rattle.queues.proofs.close.Tie as tie
+
+abbrev start : tie.After-open-below → tie.Start
+start c = c .before .before .before
+
+-- a level below is open
+next :
+    (c : tie.Else1)
+    → let at = start (c .before .before .before) .args in
+    NextOpen (at .n) (at .roots .now) (at .level) (c .before .before .before .open-below .result)
+next c = found (c .before .before .before .open-below .ensures) (c .if1 .left)
 
 open-below-requires : tie.Need-open-below-requires
 open-below-requires c κs = search needs
@@ -47,16 +58,18 @@ element-write-roots-2 : tie.Need-element-write-roots-2
 element-write-roots-2 c = search needs
 
 returns : tie.Need-returns
-returns c = inr (refl, found-none (c .before .before .before .open-below .ensures) (c .if1 .taken) (c .before .before .before .before .before .before .pre .level), refl)
+returns c =
+    let searched = c .before .before .before in
+    inr (refl, found-none (searched .open-below .ensures) (c .if1 .taken) (start searched .pre .level), refl)
 
 mul-ws : tie.Need-mul-ws
-mul-ws c = omega (arith, found (c .before .before .before .open-below .ensures) (c .if1 .left) .lower, c .before .before .before .before .before .before .pre .level)
+mul-ws c = omega (arith, next c .lower, start (c .before .before .before) .pre .level)
 
 element-copy-out-ws : tie.Need-element-copy-out-ws
-element-copy-out-ws c = omega (arith, found (c .before .before .before .open-below .ensures) (c .if1 .left) .lower, c .before .before .before .before .before .before .pre .level)
+element-copy-out-ws c = omega (arith, next c .lower, start (c .before .before .before) .pre .level)
 
 cast-ws : tie.Need-cast-ws
-cast-ws c = omega (arith, next-small (c .before .before .before .before .before .before .before .pre) (found (c .before .before .before .before .open-below .ensures) (c .before .if1 .left)))
+cast-ws c = omega (arith, next-small (start (c .before .before .before .before) .pre) (next (c .before)))
 
 mul-ws-2 : tie.Need-mul-ws-2
 mul-ws-2 c = search needs
@@ -68,7 +81,7 @@ same-length : tie.Need-same-length
 same-length c = search needs
 
 returns-2 : tie.Need-returns-2
-returns-2 c = inl (closing (c .before .before .before .before .before .before .before .pre) (found (c .before .before .before .before .open-below .ensures) (c .before .if1 .left)))
+returns-2 c = inl (closing (start (c .before .before .before .before) .pre) (next (c .before)))
 
 pub close-spec : {M : Type 1} → statement M
 close-spec =

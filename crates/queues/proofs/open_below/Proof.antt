@@ -1,11 +1,13 @@
--- `open_below` meets its contract. The invariant: no level passed is open.
-use Prim.Native.Nat.{ℕ, _*_, _%_, _≤_, _<_}
+-- `open_below` meets its contract. The invariant: no level passed is open, from the first of word i up to the one named. The measure is i, the
+-- words that are left.
+use Prim.Native.Nat.{ℕ, _+_, _*_, _-_, _%_, _≤_, _<_}
 use mathlib.Core.Logic.{inl, inr}
 use mathlib.Core.Path.{_≡_, refl}
 use native.Mathlib.Omega.{arith}
 use lib.ListN.{getD}
 use lib.Pow.{pow-pos}
 use borrow.Author.Needs.{needs}
+use Rattle.queues.specs.Queues.{NextOpen}
 use Rattle.queues.proofs.Marks.{one-shifted, own-none, own-next, word-none, word-next}
 use Rattle.queues.proofs.open_below.Statement.{statement}
 use Rattle.queues.proofs.open_below.Tie as tie
@@ -15,6 +17,18 @@ Inv-loop level n roots i₀ own i = (64 * i ≤ level) × ((k : ℕ) → 64 * i 
 
 abbrev μ-loop : tie.MeasureT-loop
 μ-loop level n roots i₀ own i = i
+
+-- the brightest open level is in word i
+next :
+    (c : tie.After-highest2 Inv-loop μ-loop)
+    → let at-loop = c .before .before .before .before .before in
+    let start = at-loop .before .before .before in
+    NextOpen (start .args .n) (start .args .roots .now) (start .args .level) (64 * (at-loop .loop .i - 1) + c .highest2 .result)
+next c =
+    let in-loop = c .before .before .before .before in
+    let at-loop = in-loop .before in
+    let start = at-loop .before .before .before in
+    word-next (start .pre .1) (start .pre .0) (in-loop .loop-test .taken) (at-loop .loop .inv) (c .highest2 .ensures)
 
 add-own : tie.Need-add-own Inv-loop μ-loop
 add-own c = search needs
@@ -81,17 +95,11 @@ highest-requires-2 c κs = omega (arith, c .before .if2 .taken)
 
 add-result-2 : tie.Need-add-result-2 Inv-loop μ-loop
 add-result-2 c =
-    let at = c .before .before .before .before .before in
-    let start = at .before .before .before in
-    let next = word-next (start .pre .1) (start .pre .0) (c .before .before .before .before .loop-test .taken) (at .loop .inv) (c .highest2 .ensures) in
-    omega (arith, next .lower, start .pre .0)
+    let start = c .before .before .before .before .before .before .before .before in
+    omega (arith, next c .lower, start .pre .0)
 
 returns-2 : tie.Need-returns-2 Inv-loop μ-loop
-returns-2 c =
-    let at = c .before .before .before .before .before in
-    let start = at .before .before .before in
-    let next = word-next (start .pre .1) (start .pre .0) (c .before .before .before .before .loop-test .taken) (at .loop .inv) (c .highest2 .ensures) in
-    inl next
+returns-2 c = inl (next c)
 
 loop-less : tie.Need-loop-less Inv-loop μ-loop
 loop-less c = search needs

@@ -7,6 +7,9 @@ use Rattle.visits.proofs.Visits.{already, fits, queued}
 use Rattle.visits.proofs.visit.Statement.{statement}
 use Rattle.visits.proofs.visit.Tie as tie
 
+abbrev start : tie.Else1 → tie.Start
+start c = c .before .before .before .before
+
 mul-if1 : tie.Need-mul-if1
 mul-if1 c = search needs
 
@@ -26,23 +29,25 @@ cast-l : tie.Need-cast-l
 cast-l c = omega (arith, c .shared-slice-known2 .given (c .before .before .before .before .before .args .q))
 
 push-requires : tie.Need-push-requires
-push-requires c κs = fits (c .before .before .before .before .before .before .before .before .pre) (c .before .before .before .before .if1 .left)
+push-requires c κs = let new = c .before .before .before .before in fits (start new .pre) (new .if1 .left)
 
 same-length : tie.Need-same-length
 same-length c = search needs
 
 returns-2 : tie.Need-returns-2
 returns-2 c =
-    let done = c .before .before .before .push in
-    queued (c .before .before .before .before .before .before .before .before .before .before .before .before .pre) (c .before .before .before .before .before .before .before .before .if1 .left) (done .kept .1 .1 .1 .0) (done .ensures) (inl (c .if2 .taken, refl))
+    let done = c .before .before .before in
+    let new = done .before .before .before .before .before in
+    queued (start new .pre) (new .if1 .left) (done .push .kept .1 .1 .1 .0) (done .push .ensures) (inl (c .if2 .taken, refl))
 
 same-length-2 : tie.Need-same-length-2
 same-length-2 c = search needs
 
 returns-3 : tie.Need-returns-3
 returns-3 c =
-    let done = c .before .before .before .push in
-    queued (c .before .before .before .before .before .before .before .before .before .before .before .before .pre) (c .before .before .before .before .before .before .before .before .if1 .left) (done .kept .1 .1 .1 .0) (done .ensures) (inr (c .if2 .left, refl))
+    let done = c .before .before .before in
+    let new = done .before .before .before .before .before in
+    queued (start new .pre) (new .if1 .left) (done .push .kept .1 .1 .1 .0) (done .push .ensures) (inr (c .if2 .left, refl))
 
 pub visit-spec : {M : Type 1} → statement M
 visit-spec =

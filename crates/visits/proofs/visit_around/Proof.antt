@@ -7,15 +7,15 @@ use borrow.Author.Needs.{needs}
 use Rattle.sets.specs.Sets.{Positions}
 use Rattle.grid.specs.declared.Grid.{Grid}
 use Rattle.queues.specs.Queues.{Lists, lists}
-use Rattle.visits.specs.Visits.{lent, head-pixel, above, left-of, right-of, Visited}
+use Rattle.visits.specs.Visits.{held, head-pixel, above, left-of, right-of, Visited}
 use Rattle.visits.proofs.Visits.{head-in, start-standing, settle, still, same-words, leaves, on-side, visits}
-use Rattle.visits.proofs.Beside.{either, around, all-around}
+use Rattle.visits.proofs.Beside.{either-side, around, all-around}
 use Rattle.visits.proofs.visit_around.Statement.{statement}
 use Rattle.visits.proofs.visit_around.Tie as tie
 
 -- the lists and the pixel at the start
 abbrev entry : tie.Start → Lists
-entry c = lent (c .args .ws) (c .args .heads) (c .args .tails) (c .args .roots)
+entry c = held (c .args .ws) (c .args .heads) (c .args .tails) (c .args .roots)
 
 abbrev pixel : tie.Start → ℕ
 pixel c = head-pixel (length (c .args .picture .now)) (entry c) (c .args .level)
@@ -48,7 +48,7 @@ abbrev lists-left : tie.After-visit-left → Lists
 lists-left c =
     let last = c .visit-left .last .1 .1 .1 .1 .1 in lists (last .0) (start (up c) .args .heads .now) (last .1 .1 .0) (last .1 .1 .1 .0)
 
-seen-left : (c : tie.After-visit-left) → Seen (start (up c)) (lists-left c) (c .visit-left .result) (either above left-of)
+seen-left : (c : tie.After-visit-left) → Seen (start (up c)) (lists-left c) (c .visit-left .result) (either-side above left-of)
 seen-left c = visits (settle (seen-up (up c)) (c .before .before .before .before .if1 .left)) (c .visit-left .ensures)
 
 abbrev lists-right : tie.After-visit-right → Lists
@@ -58,7 +58,7 @@ lists-right c =
 
 seen-right :
     (c : tie.After-visit-right)
-    → Seen (start (up (left c))) (lists-right c) (c .visit-right .result) (either (either above left-of) right-of)
+    → Seen (start (up (left c))) (lists-right c) (c .visit-right .result) (either-side (either-side above left-of) right-of)
 seen-right c = visits (settle (seen-left (left c)) (c .before .before .before .before .if2 .left)) (c .visit-right .ensures)
 
 abbrev lists-down : tie.After-visit-down → Lists

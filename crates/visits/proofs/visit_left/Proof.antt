@@ -6,7 +6,7 @@ use native.Mathlib.Omega.{arith}
 use lib.Dec.{eqb}
 use borrow.Author.Needs.{needs}
 use Rattle.queues.specs.Queues.{Lists, lists}
-use Rattle.visits.specs.Visits.{lent, Visited}
+use Rattle.visits.specs.Visits.{held, Visited}
 use Rattle.visits.proofs.Visits.{on-side}
 use Rattle.visits.proofs.Beside.{none-left, visit-left, is-left}
 use Rattle.visits.proofs.visit_left.Statement.{statement}
@@ -22,7 +22,7 @@ exit c = let last = c .visit .last .1 .1 .1 .1 in lists (last .0) (start c .args
 seen :
     (c : tie.After-visit)
     → let at = start c .args in
-    Visited (at .grid) (at .picture .now) (lent (at .ws) (at .heads) (at .tails) (at .roots)) (exit c) (at .level) (c .visit .result)
+    Visited (at .grid) (at .picture .now) (held (at .ws) (at .heads) (at .tails) (at .roots)) (exit c) (at .level) (c .visit .result)
     (eqb (at .p - 1))
 seen c = c .visit .ensures
 
