@@ -24,7 +24,7 @@ use Rattle.accumulators.specs.Accumulators.{packed, nothing, single, com
 by-area : {A : Type 0} (a : ℕ) → (eqb a 1 ≡ true → A) → (eqb a 1 ≡ false → A) → A
 by-area a f g = ⊎-elim f g (decided (eqb a 1))
 
-pub combined-comm : (a x y : ℕ) → combined a x y ≡ combined a y x
+combined-comm : (a x y : ℕ) → combined a x y ≡ combined a y x
 unfolding combined
 combined-comm a x y = by-area a (λ e. rw e (omega arith)) (λ e. rw e (omega arith))
 
@@ -40,7 +40,7 @@ max-assoc x y z = omega arith
 min-assoc : (x y z : ℕ) → min (min x y) z ≡ min x (min y z)
 min-assoc x y z = omega arith
 
-pub combined-assoc : (a x y z : ℕ) → combined a (combined a x y) z ≡ combined a x (combined a y z)
+combined-assoc : (a x y z : ℕ) → combined a (combined a x y) z ≡ combined a x (combined a y z)
 unfolding combined
 combined-assoc a x y z =
     by-area
@@ -56,7 +56,7 @@ combined-assoc a x y z =
     )
     (cc (max-assoc (x / longest-side) (y / longest-side) (z / longest-side), min-assoc (x % longest-side) (y % longest-side) (z % longest-side))))
 
-pub combined-nothing : (a x : ℕ) → combined a x (nothing a) ≡ x
+combined-nothing : (a x : ℕ) → combined a x (nothing a) ≡ x
 unfolding combined nothing
 combined-nothing a x = by-area a (λ e. rw e (omega arith)) (λ e. rw e (omega arith))
 

@@ -37,7 +37,7 @@ use Rattle.parts.specs.Parts.{node-word, first-of, held-of, root-of, lowest-of,
 use Rattle.parts.proofs.Roots.{root-same, root-within, lowest-same, node-level-same}
 use Rattle.own_pixels.specs.OwnPixels.{blanked, Blank, Owned}
 use Rattle.own_pixels.proofs.Blanking.{Blank-words, blank-words}
-use Rattle.representatives.specs.Representatives.{Recordable, Recorded}
+use Rattle.representatives.specs.Representatives.{Representable, Represented}
 use Rattle.descendants.specs.Pouring.{Own-held}
 use Rattle.max_tree.specs.Building.{Buildable}
 use Rattle.max_tree.proofs.FloodForest.{flooded-forest, forest-same}
@@ -207,7 +207,7 @@ module _ {grid : Grid} {a : ℕ} {picture ws counts : List ℕ} (O : Own-left gr
   starts-asked =
       omega (arith, starts-at 256 (omega arith), count-le n (λ (q : ℕ). ltb (node-level picture ws q) 256), O .flood .sized .small)
 
-  pub record-asked : {starts : List ℕ} → starts ≡ starts-of counts → Recordable picture ws starts
+  pub record-asked : {starts : List ℕ} → starts ≡ starts-of counts → Representable picture ws starts
   record-asked is =
       record {
         sized = O .flood .sized;
@@ -221,7 +221,7 @@ module _ {grid : Grid} {a : ℕ} {picture ws counts : List ℕ} (O : Own-left gr
       }
 
   -- after the record is written
-  module _ {ws' : List ℕ} {nodes : ℕ} (R : Recorded picture ws ws' nodes) where
+  module _ {ws' : List ℕ} {nodes : ℕ} (R : Represented picture ws ws' nodes) where
     new-root : (q : ℕ) → q < n → roots picture ws' q ≡ lowest-own-pixel picture ws q
     new-root q b =
         ap (λ (k : ℕ). eqb k q) (relabel-root n adj (adjacent-symmetric grid) g (parent-of ws) forest (parent-of ws') (R .parents) q b)

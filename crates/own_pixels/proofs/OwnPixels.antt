@@ -137,7 +137,7 @@ module _ {grid : Grid} {a : ℕ} {picture ws₀ : List ℕ} (start : Blank grid 
         nodes = λ l b. getD-replicate 256 l 0 0 b;
       }
 
-  pub owning-small : (ws counts : List ℕ) (i r : ℕ) → Owning grid a picture ws₀ ws counts i → r < length picture → Small (held-of (length picture) ws r)
+  owning-small : (ws counts : List ℕ) (i r : ℕ) → Owning grid a picture ws₀ ws counts i → r < length picture → Small (held-of (length picture) ws r)
   owning-small ws counts i r O b =
       rw
       (O .held r b)

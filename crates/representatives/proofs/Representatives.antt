@@ -26,7 +26,7 @@ use Rattle.levels.proofs.Counts.{equal-or-not}
 use Rattle.levels.proofs.Tables.{stored, count-next}
 use Rattle.listing.specs.Listing.{Listed}
 use Rattle.parts.specs.Parts.{node-word, first-of, held-of, root-of, lowest-of, lowest-own-pixel, node-level}
-use Rattle.representatives.specs.Representatives.{is-first, Writable, first-written, other-written, written-at, tails-at, Recordable, new-parent, new-word, Recorded}
+use Rattle.representatives.specs.Representatives.{is-first, Writable, first-written, other-written, written-at, tails-at, Representable, new-parent, new-word, Represented}
 use Rattle.parts.proofs.Parts.{read-one, read-two, read-else}
 use Rattle.parts.proofs.Roots.{root-same, root-within}
 use Rattle.listing.proofs.Listing.{Listing, listing-none, listing-skip, listing-put, room, listing-end, listing-number}
@@ -69,7 +69,7 @@ pub record Writing (picture ws₀ ws tails : List ℕ) (nodes q : ℕ) : Type 0 
   pub list : Listing (length picture) (node-level picture ws₀) (order-of (length picture) ws) (λ (k : ℕ). getD tails k 0) q
   pub number : nodes ≡ count q (lowest-own-pixel picture ws₀)
 
-module _ {picture ws₀ starts : List ℕ} (start : Recordable picture ws₀ starts) where
+module _ {picture ws₀ starts : List ℕ} (start : Representable picture ws₀ starts) where
   pub writing-none : Writing picture ws₀ ws₀ starts 0 0
   unfolding count
   writing-none =
@@ -92,7 +92,7 @@ module _ {picture ws₀ starts : List ℕ} (start : Recordable picture ws₀ sta
         number = refl;
       }
 
-  pub writing-end : {ws tails : List ℕ} {nodes q : ℕ} → length picture ≤ q → Writing picture ws₀ ws tails nodes q → Recorded picture ws₀ ws nodes
+  pub writing-end : {ws tails : List ℕ} {nodes q : ℕ} → length picture ≤ q → Writing picture ws₀ ws tails nodes q → Represented picture ws₀ ws nodes
   writing-end {ws} {tails} {nodes} {q} all W =
       let n : ℕ = length picture in
       let z : q ≡ n = omega (arith, W .top) in

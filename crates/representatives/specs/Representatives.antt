@@ -54,7 +54,7 @@ tails-at picture q ws tails =
     cond (is-first picture q ws) (set tails (grey picture q) (getD tails (grey picture q) 0 + 1)) tails
 
 -- part 1 holds the parent words of a forest, part 2 zeros, part 4 the lowest own pixels, and each level's run starts after the darker nodes
-pub record Recordable (picture ws starts : List ℕ) : Type 0 where
+pub record Representable (picture ws starts : List ℕ) : Type 0 where
   pub sized : Sized (length picture) ws
   pub bytes : (x : ℕ) → grey picture x < 256
   pub within : (q : ℕ) → q < length picture → parent-of ws q < length picture
@@ -77,7 +77,7 @@ new-parent picture ws q =
 abbrev pub new-word : List ℕ → List ℕ → ℕ → ℕ
 new-word picture ws q = cond (lowest-own-pixel picture ws q) (held-of (length picture) ws (root-of picture ws q)) 0
 
-pub record Recorded (picture ws ws' : List ℕ) (nodes : ℕ) : Type 0 where
+pub record Represented (picture ws ws' : List ℕ) (nodes : ℕ) : Type 0 where
   pub words : length ws' ≡ length ws
   pub parents : (q : ℕ) → q < length picture → getD ws' q 0 ≡ new-parent picture ws q
   pub held : (q : ℕ) → q < length picture → node-word (length picture) ws' q ≡ new-word picture ws q

@@ -1,7 +1,7 @@
 // The pass that writes the representatives: the parent words of the record, and the representatives by rising level in part 3.
 ghost use mathlib.Core.Bool.{cond};
 ghost use mathlib.Core.Path.{_≡_};
-ghost use Rattle.representatives.specs.Representatives.{Writable, written-at, tails-at, is-first, Recordable, Recorded};
+ghost use Rattle.representatives.specs.Representatives.{Writable, written-at, tails-at, is-first, Representable, Represented};
 
 // The parent word of the pixel q, the first that is not written yet. That of a representative is put at the end of its level's run
 // in part 3, and its word in part 2 is the accumulator of its own pixels. Answers 1 for a representative, else 0.
@@ -33,8 +33,8 @@ fn write_pixel(picture: &[u8], q: usize, ws: &mut [u32], tails: &mut [usize; 256
 // The parent words of the record in order of position, a node's lowest own pixel no later than its root, and the list of the
 // representatives, whose runs start where it is said. Answers the number of nodes.
 pub fn write_record(picture: &[u8], starts: [usize; 256], ws: &mut [u32]) -> usize
-    requires { ⌜ Recordable (now picture) (now ws) starts ⌝ }
-    ensures { λ r. ⌜ Recorded (now (picture .entry)) (now (ws .entry)) (now (ws .exit)) r ⌝ }
+    requires { ⌜ Representable (now picture) (now ws) starts ⌝ }
+    ensures { λ r. ⌜ Represented (now (picture .entry)) (now (ws .entry)) (now (ws .exit)) r ⌝ }
 {
     let n = picture.len();
     let mut tails = starts;
