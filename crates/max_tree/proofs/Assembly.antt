@@ -87,7 +87,7 @@ module _ {grid : Grid} {picture ws : List ℕ} (B : Buildable grid picture ws) w
   fits : Bounded (grid .width) (grid .height)
   fits = bounded (grid .width) (grid .height) (B .sides)
 
-  pub sized : {ws' : List ℕ} → length ws' ≡ length ws → Sized ((length picture)) ws'
+  pub sized : {ws' : List ℕ} → length ws' ≡ length ws → Sized (length picture) ws'
   sized long = record { words = long ∙ omega (arith, B .bytes, B .words); small = omega (arith, B .bytes, fits .small) }
 
   pub flood-asked : Floodable grid picture ws
@@ -100,7 +100,7 @@ module _ {grid : Grid} {picture ws : List ℕ} (B : Buildable grid picture ws) w
         bytes = B .bytes;
         greys = greys;
         sized = sized long;
-        forest = flooded-forest ((length picture)) (adjacent grid) (adjacent-symmetric grid) (grey picture) (parent-of ws') left;
+        forest = flooded-forest (length picture) (adjacent grid) (adjacent-symmetric grid) (grey picture) (parent-of ws') left;
       }
 
 -- rows and columns are short
@@ -116,9 +116,9 @@ short {grid} F a q b =
     (λ e. omega (arith, mod-lt q (F .fits .wide), F .fits .not-wider))
 
 -- parts 2, 4 and 5 are blank
-module _ {grid : Grid} {a : ℕ} {picture ws ws₁ : List ℕ} (F : Flood-left grid picture ws) (is : ws₁ ≡ blanked ((length picture)) a ws) where
-  blank : Blank-words ((length picture)) a ws ws₁
-  blank = blank-words ((length picture)) a ws ws₁ (F .sized .words) is
+module _ {grid : Grid} {a : ℕ} {picture ws ws₁ : List ℕ} (F : Flood-left grid picture ws) (is : ws₁ ≡ blanked (length picture) a ws) where
+  blank : Blank-words (length picture) a ws ws₁
+  blank = blank-words (length picture) a ws ws₁ (F .sized .words) is
 
   pub own-asked : Blank grid a picture ws₁
   own-asked =
@@ -151,7 +151,7 @@ module _ {grid : Grid} {a : ℕ} {picture ws ws₁ : List ℕ} (F : Flood-left g
                 sized = record { words = O .words ∙ blank .words ∙ F .sized .words; small = F .sized .small };
                 forest =
                     forest-same
-                    ((length picture))
+                    (length picture)
                     (adjacent grid)
                     (grey picture)
                     (parent-of ws)
@@ -162,7 +162,7 @@ module _ {grid : Grid} {a : ℕ} {picture ws ws₁ : List ℕ} (F : Flood-left g
           zero = λ q b. O .kept (length picture + q) (omega arith) ∙ blank .zero q b;
           first =
               λ q b.
-              ap (first-of ((length picture)) ws') (same-root q b)
+              ap (first-of (length picture) ws') (same-root q b)
               ∙ O .first q b
               ∙ ap (lowest-of picture ws₁) (sym (same-root q b))
               ∙ lowest-same picture ws₁ ws' same-parent (root-of picture ws' q);
@@ -170,7 +170,7 @@ module _ {grid : Grid} {a : ℕ} {picture ws ws₁ : List ℕ} (F : Flood-left g
               λ r b.
               O .held r b
               ∙ gather-ext
-              ((length picture))
+              (length picture)
               (combined a)
               (nothing a)
               (single grid a)
@@ -181,7 +181,7 @@ module _ {grid : Grid} {a : ℕ} {picture ws ws₁ : List ℕ} (F : Flood-left g
               λ l b.
               table-read _ (O .counted) l b
               ∙ count-ext
-              ((length picture))
+              (length picture)
               (λ (q : ℕ). eqb (node-level picture ws₁ q) l)
               (λ (q : ℕ). eqb (node-level picture ws' q) l)
               (λ q c. ap (λ (k : ℕ). eqb k l) (sym (node-level-same picture ws₁ ws' same-parent q c)));

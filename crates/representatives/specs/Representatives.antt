@@ -77,6 +77,7 @@ new-parent picture ws q =
 abbrev pub new-word : List ℕ → List ℕ → ℕ → ℕ
 new-word picture ws q = cond (lowest-own-pixel picture ws q) (held-of (length picture) ws (root-of picture ws q)) 0
 
+-- they stand in parts 1 and 2, and the representatives in part 3, by rising level
 pub record Represented (picture ws ws' : List ℕ) (nodes : ℕ) : Type 0 where
   pub words : length ws' ≡ length ws
   pub parents : (q : ℕ) → q < length picture → getD ws' q 0 ≡ new-parent picture ws q
