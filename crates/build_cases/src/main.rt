@@ -4,6 +4,7 @@ ghost use mathlib.Core.Path.{_≡_};
 ghost use lib.ListN.{length};
 use cases::printing;
 use cases::table;
+use grid::Grid;
 
 fn answer(built: calls::Built) {
     match built {
@@ -30,7 +31,7 @@ fn builds(
     workspace: &mut [u32],
 ) {
     printing::text(name);
-    answer(max_tree::build(picture, width, height, attribute, workspace));
+    answer(max_tree::build(picture, Grid { width, height }, attribute, workspace));
     left(workspace);
     printing::text(b"\n");
 }

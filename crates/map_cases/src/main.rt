@@ -2,6 +2,7 @@
 // as the call left them. Before every call the workspace is lent full of 7, the residue map full of 8 and the index map full of 9.
 use cases::printing;
 use cases::table;
+use grid::Grid;
 
 fn maps(
     name: &[u8],
@@ -17,8 +18,7 @@ fn maps(
     printing::text(name);
     let answer = residues::map(
         picture,
-        width,
-        height,
+        Grid { width, height },
         attribute,
         steps,
         workspace,

@@ -2,6 +2,7 @@
 // the output and the workspace are lent from. Before each call the output's holds 9s and the workspace's 7s.
 use cases::printing;
 use cases::table;
+use grid::Grid;
 
 // One line of the table: the name, the picture, the call's numbers, and how many words and entries it is lent.
 fn case(line: &[u8]) {
@@ -15,8 +16,7 @@ fn case(line: &[u8]) {
     let threshold = table::number(line, 5);
     let answer = openings::open(
         picture,
-        width,
-        height,
+        Grid { width, height },
         attribute,
         threshold,
         table::lent_words(line, 6, &mut workspace),
