@@ -25,9 +25,9 @@ use Rattle.tree.proofs.Relabel.{relabel-root, relabel-forest, relabel-owned}
 use Rattle.causes.specs.Bounds.{longest-side}
 use Rattle.causes.proofs.Laws.{Bounded, bounded}
 use Rattle.sets.proofs.Tables.{table-long, table-read}
-use Rattle.levels.specs.Levels.{grey, total, starts-of, darker}
+use Rattle.levels.specs.Levels.{grey, entry-sum, starts-of, darker}
 use Rattle.levels.specs.Workspace.{parent-of, order-of, Sized}
-use Rattle.levels.proofs.Tables.{total-below}
+use Rattle.levels.proofs.Tables.{sum-counts}
 use Rattle.flood.specs.Calls.{Floodable, FloodedBy}
 use Rattle.accumulators.specs.Accumulators.{nothing, single, combined, gathered, Short}
 use Rattle.branches.specs.Branches.{owned}
@@ -200,10 +200,10 @@ module _ {grid : Grid} {a : ℕ} {picture ws counts : List ℕ} (O : Own-left gr
   forest : Forest n adj g (parent-of ws)
   forest = O .flood .forest
 
-  starts-at : (l : ℕ) → l ≤ 256 → total l (λ (k : ℕ). getD counts k 0) ≡ darker n (node-level picture ws) l
-  starts-at l b = total-below (node-level picture ws) counts n (O .nodes) l b
+  starts-at : (l : ℕ) → l ≤ 256 → entry-sum counts l ≡ darker n (node-level picture ws) l
+  starts-at l b = sum-counts (node-level picture ws) counts n (O .nodes) l b
 
-  pub starts-asked : total 256 (λ (k : ℕ). getD counts k 0) < 2 ^ 64
+  pub starts-asked : entry-sum counts 256 < 2 ^ 64
   starts-asked =
       omega (arith, starts-at 256 (omega arith), count-le n (λ (q : ℕ). ltb (node-level picture ws q) 256), O .flood .sized .small)
 
