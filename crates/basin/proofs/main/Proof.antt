@@ -30,16 +30,38 @@ enum-known-picture : tie.Need-enum-known-picture
 enum-known-picture c = search needs
 
 array-share-prefix-file : tie.Need-array-share-prefix-file
-array-share-prefix-file c = loaded-room (c .before .before .before .before .before .before .before .before .before .load .result) _ _ (c .before .before .before .before .before .before .before .before .before .load .ensures) (both-loaded (c .before .before .before .before .before .before .before .before .before .load .result) (c .before .before .before .before .before .load2 .result) _ _ _ (c .before .before .before .both .ensures) (c .before .picture .given .1) .0)
+array-share-prefix-file c =
+    let matched = c .before in
+    let second = matched .before .before .before .before in
+    let first = second .before .before .before .before in
+    loaded-room (first .load .result) _ _ (first .load .ensures)
+    (both-loaded (first .load .result) (second .load2 .result) _ _ _ (matched .before .before .both .ensures) (matched .picture .given .1) .0)
 
 slice-aggregate-answer : tie.Need-slice-aggregate-answer
-slice-aggregate-answer c = taken _ _ (loaded-room (c .before .before .before .before .before .before .before .before .before .before .load .result) _ _ (c .before .before .before .before .before .before .before .before .before .before .load .ensures) (both-loaded (c .before .before .before .before .before .before .before .before .before .before .load .result) (c .before .before .before .before .before .before .load2 .result) _ _ _ (c .before .before .before .before .both .ensures) (c .before .before .picture .given .1) .0))
+slice-aggregate-answer c =
+    let matched = c .before .before in
+    let second = matched .before .before .before .before in
+    let first = second .before .before .before .before in
+    taken _ _
+    (loaded-room (first .load .result) _ _ (first .load .ensures)
+    (both-loaded (first .load .result) (second .load2 .result) _ _ _ (matched .before .before .both .ensures) (matched .picture .given .1) .0))
 
 array-share-prefix-steps : tie.Need-array-share-prefix-steps
-array-share-prefix-steps c = loaded-room (c .before .before .before .before .before .before .load2 .result) _ _ (c .before .before .before .before .before .before .load2 .ensures) (both-loaded (c .before .before .before .before .before .before .before .before .before .before .load .result) (c .before .before .before .before .before .before .load2 .result) _ _ _ (c .before .before .before .before .both .ensures) (c .before .before .picture .given .1) .1)
+array-share-prefix-steps c =
+    let matched = c .before .before in
+    let second = matched .before .before .before .before in
+    let first = second .before .before .before .before in
+    loaded-room (second .load2 .result) _ _ (second .load2 .ensures)
+    (both-loaded (first .load .result) (second .load2 .result) _ _ _ (matched .before .before .both .ensures) (matched .picture .given .1) .1)
 
 slice-aggregate-answer-2 : tie.Need-slice-aggregate-answer-2
-slice-aggregate-answer-2 c = taken _ _ (loaded-room (c .before .before .before .before .before .before .before .load2 .result) _ _ (c .before .before .before .before .before .before .before .load2 .ensures) (both-loaded (c .before .before .before .before .before .before .before .before .before .before .before .load .result) (c .before .before .before .before .before .before .before .load2 .result) _ _ _ (c .before .before .before .before .before .both .ensures) (c .before .before .before .picture .given .1) .1))
+slice-aggregate-answer-2 c =
+    let matched = c .before .before .before in
+    let second = matched .before .before .before .before in
+    let first = second .before .before .before .before in
+    taken _ _
+    (loaded-room (second .load2 .result) _ _ (second .load2 .ensures)
+    (both-loaded (first .load .result) (second .load2 .result) _ _ _ (matched .before .before .both .ensures) (matched .picture .given .1) .1))
 
 answer-requires : tie.Need-answer-requires
 answer-requires c κs = search needs

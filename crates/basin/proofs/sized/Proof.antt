@@ -1,12 +1,15 @@
 -- `basin::sized` is safe and ends: a call that is done had sides that fit. Assumes nothing.
-use Prim.Native.Nat.{_*_}
-use mathlib.Core.Path.{_∙_, sym}
+use Prim.Native.Nat.{ℕ, _*_}
+use mathlib.Core.List.{_++_}
+use mathlib.Core.Path.{_≡_, _∙_, sym}
+use native.Mathlib.Omega.{arith}
 use lib.ListN.{length, take, drop}
 use denote.Ref.{now}
+use Rattle.causes.specs.Bounds.{words-a-pixel}
+use Rattle.calls.specs.Calls.{Map-call}
 use Rattle.calls.proofs.Answers.{verdict-determined}
 use Rattle.basin.proofs.Lending.{taken, returned, done-wide}
 use borrow.Author.Needs.{needs}
-use native.Mathlib.Omega.{arith}
 use Rattle.basin.proofs.sized.Statement.{statement}
 use Rattle.basin.proofs.sized.Tie as tie
 
@@ -18,21 +21,24 @@ slice-relend-prefix-map c = search needs
 
 slice-aggregate-map : tie.Need-slice-aggregate-map
 slice-aggregate-map c =
-    taken (now (c .before .before .before .before .before .before .args .workspace)) (6 * (length (now (c .before .before .before .before .before .before .args .picture)))) (omega (arith, c .before .before .before .before .before .before .pre))
+    let start = c .before .before .before .before .before .before in
+    taken (now (start .args .workspace)) (words-a-pixel * length (now (start .args .picture))) (omega (arith, start .pre))
 
 slice-relend-prefix-map-2 : tie.Need-slice-relend-prefix-map-2
 slice-relend-prefix-map-2 c = search needs
 
 slice-aggregate-map-2 : tie.Need-slice-aggregate-map-2
 slice-aggregate-map-2 c =
-    taken (now (c .before .before .before .before .before .before .before .args .residue)) (length (now (c .before .before .before .before .before .before .before .args .picture))) (omega (arith, c .before .before .before .before .before .before .before .pre))
+    let start = c .before .before .before .before .before .before .before in
+    taken (now (start .args .residue)) (length (now (start .args .picture))) (omega (arith, start .pre))
 
 slice-relend-prefix-map-3 : tie.Need-slice-relend-prefix-map-3
 slice-relend-prefix-map-3 c = search needs
 
 slice-aggregate-map-3 : tie.Need-slice-aggregate-map-3
 slice-aggregate-map-3 c =
-    taken (now (c .before .before .before .before .before .before .before .before .args .index)) (length (now (c .before .before .before .before .before .before .before .before .args .picture))) (omega (arith, c .before .before .before .before .before .before .before .before .pre))
+    let start = c .before .before .before .before .before .before .before .before in
+    taken (now (start .args .index)) (length (now (start .args .picture))) (omega (arith, start .pre))
 
 map-requires : tie.Need-map-requires
 map-requires c κs = search needs
@@ -40,26 +46,57 @@ map-requires c κs = search needs
 enum-told : tie.Need-enum-told
 enum-told c = search needs
 
+-- after the map call: the call, and that its parts of the maps have come back as long as they were lent
+abbrev call : tie.After-map → Map-call
+call c =
+    let a = c .before .before .before .before .before .before .before .before .before .args in
+    let n : ℕ = length (now (a .picture)) in
+    record {
+      picture = now (a .picture);
+      grid = a .grid;
+      attribute = a .attribute;
+      steps = now (a .steps);
+      workspace = take (words-a-pixel * n) (now (a .workspace));
+      residue = take n (now (a .residue));
+      index = take n (now (a .index));
+    }
+
+residue-back : (c : tie.After-map)
+    → let a = c .before .before .before .before .before .before .before .before .before .args in
+    let n : ℕ = length (now (a .picture)) in
+    length (take n (c .map .last .1 .1 .1 .1 .1 .0 ++ drop n (now (a .residue)))) ≡ n
+residue-back c =
+    let start = c .before .before .before .before .before .before .before .before .before in
+    returned (c .map .last .1 .1 .1 .1 .1 .0) (now (start .args .residue)) _ _ (omega (arith, start .pre)) (c .map .kept .1 .1 .1 .1 .1 .0)
+
+index-back : (c : tie.After-map)
+    → let a = c .before .before .before .before .before .before .before .before .before .args in
+    let n : ℕ = length (now (a .picture)) in
+    length (take n (c .map .last .1 .1 .1 .1 .1 .1 .0 ++ drop n (now (a .index)))) ≡ n
+index-back c =
+    let start = c .before .before .before .before .before .before .before .before .before in
+    returned (c .map .last .1 .1 .1 .1 .1 .1 .0) (now (start .args .index)) _ _ (omega (arith, start .pre)) (c .map .kept .1 .1 .1 .1 .1 .1 .0)
+
 slice-reshare-prefix-listing : tie.Need-slice-reshare-prefix-listing
 slice-reshare-prefix-listing c = search needs
 
 slice-aggregate-listing : tie.Need-slice-aggregate-listing
-slice-aggregate-listing c =
-    sym (returned (c .before .before .before .before .before .before .before .before .before .map .last .1 .1 .1 .1 .1 .1 .0) (now (c .before .before .before .before .before .before .before .before .before .before .before .before .before .before .before .before .before .before .args .residue)) (drop (length (now (c .before .before .before .before .before .before .before .before .before .before .before .before .before .before .before .before .before .before .args .picture))) (now (c .before .before .before .before .before .before .before .before .before .before .before .before .before .before .before .before .before .before .args .residue))) (length (now (c .before .before .before .before .before .before .before .before .before .before .before .before .before .before .before .before .before .before .args .picture))) (omega (arith, c .before .before .before .before .before .before .before .before .before .before .before .before .before .before .before .before .before .before .pre)) (c .before .before .before .before .before .before .before .before .before .map .kept .1 .1 .1 .1 .1 .1 .0))
+slice-aggregate-listing c = let mapped = c .before .before .before .before .before .before .before .before .before in sym (residue-back mapped)
 
 slice-reshare-prefix-listing-2 : tie.Need-slice-reshare-prefix-listing-2
 slice-reshare-prefix-listing-2 c = search needs
 
 slice-aggregate-listing-2 : tie.Need-slice-aggregate-listing-2
-slice-aggregate-listing-2 c =
-    sym (returned (c .before .before .before .before .before .before .before .before .before .before .map .last .1 .1 .1 .1 .1 .1 .1 .0) (now (c .before .before .before .before .before .before .before .before .before .before .before .before .before .before .before .before .before .before .before .args .index)) (drop (length (now (c .before .before .before .before .before .before .before .before .before .before .before .before .before .before .before .before .before .before .before .args .picture))) (now (c .before .before .before .before .before .before .before .before .before .before .before .before .before .before .before .before .before .before .before .args .index))) (length (now (c .before .before .before .before .before .before .before .before .before .before .before .before .before .before .before .before .before .before .before .args .picture))) (omega (arith, c .before .before .before .before .before .before .before .before .before .before .before .before .before .before .before .before .before .before .before .pre)) (c .before .before .before .before .before .before .before .before .before .before .map .kept .1 .1 .1 .1 .1 .1 .1 .0))
+slice-aggregate-listing-2 c = let mapped = c .before .before .before .before .before .before .before .before .before .before in sym (index-back mapped)
 
 listing-requires : tie.Need-listing-requires
-listing-requires c κs = (
-  done-wide (c .before .before .before .before .before .before .before .before .before .before .before .before .before .before .before .before .before .before .before .args .width) (c .before .before .before .before .before .before .before .before .before .before .before .before .before .before .before .before .before .before .before .args .height) (c .before .before .before .before .before .before .before .before .before .before .before .before .before .before .before .before .before .before .before .args .attribute) (now (c .before .before .before .before .before .before .before .before .before .before .before .before .before .before .before .before .before .before .before .args .steps)) (now (c .before .before .before .before .before .before .before .before .before .before .before .before .before .before .before .before .before .before .before .args .picture)) (take (6 * (length (now (c .before .before .before .before .before .before .before .before .before .before .before .before .before .before .before .before .before .before .before .args .picture)))) (now (c .before .before .before .before .before .before .before .before .before .before .before .before .before .before .before .before .before .before .before .args .workspace))) (take (length (now (c .before .before .before .before .before .before .before .before .before .before .before .before .before .before .before .before .before .before .before .args .picture))) (now (c .before .before .before .before .before .before .before .before .before .before .before .before .before .before .before .before .before .before .before .args .residue))) (take (length (now (c .before .before .before .before .before .before .before .before .before .before .before .before .before .before .before .before .before .before .before .args .picture))) (now (c .before .before .before .before .before .before .before .before .before .before .before .before .before .before .before .before .before .before .before .args .index))) (sym (verdict-determined _ _ (c .before .before .before .before .before .before .before .before .before .before .map .ensures .0)) ∙ c .before .before .enum-told .given .1),
-  returned (c .before .before .before .before .before .before .before .before .before .before .map .last .1 .1 .1 .1 .1 .1 .0) (now (c .before .before .before .before .before .before .before .before .before .before .before .before .before .before .before .before .before .before .before .args .residue)) (drop (length (now (c .before .before .before .before .before .before .before .before .before .before .before .before .before .before .before .before .before .before .before .args .picture))) (now (c .before .before .before .before .before .before .before .before .before .before .before .before .before .before .before .before .before .before .before .args .residue))) (length (now (c .before .before .before .before .before .before .before .before .before .before .before .before .before .before .before .before .before .before .before .args .picture))) (omega (arith, c .before .before .before .before .before .before .before .before .before .before .before .before .before .before .before .before .before .before .before .pre)) (c .before .before .before .before .before .before .before .before .before .before .map .kept .1 .1 .1 .1 .1 .1 .0),
-  returned (c .before .before .before .before .before .before .before .before .before .before .map .last .1 .1 .1 .1 .1 .1 .1 .0) (now (c .before .before .before .before .before .before .before .before .before .before .before .before .before .before .before .before .before .before .before .args .index)) (drop (length (now (c .before .before .before .before .before .before .before .before .before .before .before .before .before .before .before .before .before .before .before .args .picture))) (now (c .before .before .before .before .before .before .before .before .before .before .before .before .before .before .before .before .before .before .before .args .index))) (length (now (c .before .before .before .before .before .before .before .before .before .before .before .before .before .before .before .before .before .before .before .args .picture))) (omega (arith, c .before .before .before .before .before .before .before .before .before .before .before .before .before .before .before .before .before .before .before .pre)) (c .before .before .before .before .before .before .before .before .before .before .map .kept .1 .1 .1 .1 .1 .1 .1 .0),
-)
+listing-requires c κs =
+    let mapped = c .before .before .before .before .before .before .before .before .before .before in
+    let told = c .before .before in (
+      done-wide (call mapped) (sym (verdict-determined _ _ (mapped .map .ensures .0)) ∙ told .enum-told .given .1),
+      residue-back mapped,
+      index-back mapped,
+    )
 
 enum-known-mapped : tie.Need-enum-known-mapped
 enum-known-mapped c = search needs

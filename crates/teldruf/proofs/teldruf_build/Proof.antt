@@ -1,7 +1,7 @@
 -- `teldruf::teldruf_build` meets its contract, by what `max_tree::build` answers and writes. Assumes nothing.
-use mathlib.Core.Path.{_∙_, sym, ap}
-use Rattle.teldruf.specs.Codes.{code-of}
+use mathlib.Core.Path.{_∙_}
 use Rattle.calls.specs.Calls.{built-numbers}
+use Rattle.teldruf.proofs.Answering.{answered}
 use borrow.Author.Needs.{needs}
 use Rattle.teldruf.proofs.teldruf_build.Statement.{statement}
 use Rattle.teldruf.proofs.teldruf_build.Tie as tie
@@ -26,14 +26,16 @@ same-length c = search needs
 
 returns : tie.Need-returns
 returns c =
-    (ap code-of (ap built-numbers (sym (c .before .total .given .1)) ∙ c .before .before .before .before .before .build .ensures .0), c .before .before .before .before .before .build .ensures .1)
+    let called = c .before .before .before .before .before in
+    (answered built-numbers (c .before .total .given .1) (called .build .ensures .0), called .build .ensures .1)
 
 same-length-2 : tie.Need-same-length-2
 same-length-2 c = search needs
 
 returns-2 : tie.Need-returns-2
 returns-2 c =
-    (c .refused .ensures ∙ ap code-of (ap built-numbers (sym (c .before .before .cause .given .1)) ∙ c .before .before .before .before .before .before .build .ensures .0), c .before .before .before .before .before .before .build .ensures .1)
+    let called = c .before .before .before .before .before .before in
+    (c .refused .ensures ∙ answered built-numbers (c .before .before .cause .given .1) (called .build .ensures .0), called .build .ensures .1)
 
 pub teldruf-build-spec : {M : Type 1} → statement M
 teldruf-build-spec =
