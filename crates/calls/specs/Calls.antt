@@ -12,7 +12,7 @@ use Rattle.grid.specs.Attributes.{attribute}
 use Rattle.grid.specs.declared.Grid.{Grid}
 pub use Rattle.grid.specs.Greys.{grey}
 use Rattle.opening.specs.Opening.{opened}
-use Rattle.opening.specs.Residue.{thresholds, residue-by, index-by}
+use Rattle.opening.specs.Residue.{threshold-tests, residue-by, index-by}
 use Rattle.tree.specs.Tree.{workspace, number-of-nodes}
 use Rattle.causes.specs.Causes.{number-of}
 use Rattle.causes.specs.declared.Cause.the-variants.{Steps}
@@ -33,12 +33,12 @@ opened-picture grid a t picture = table (pixels grid) (λ (p : ℕ). opening gri
 -- "The residue map holds the largest residue (a byte)."
 unfoldable pub residue-map : Grid → ℕ → List ℕ → List ℕ → List ℕ
 residue-map grid a steps picture =
-    table (pixels grid) (λ (p : ℕ). residue-by (pixels grid) (adjacent grid) (thresholds (attribute grid a) steps) (grey picture) p)
+    table (pixels grid) (λ (p : ℕ). residue-by (pixels grid) (adjacent grid) (threshold-tests (attribute grid a) steps) (grey picture) p)
 
 -- "The index map holds the largest i + 1 attaining it (16 bits), or 0 where it is 0."
 unfoldable pub index-map : Grid → ℕ → List ℕ → List ℕ → List ℕ
 index-map grid a steps picture =
-    table (pixels grid) (λ (p : ℕ). index-by (pixels grid) (adjacent grid) (thresholds (attribute grid a) steps) (grey picture) p)
+    table (pixels grid) (λ (p : ℕ). index-by (pixels grid) (adjacent grid) (threshold-tests (attribute grid a) steps) (grey picture) p)
 
 -- the tree record of a picture, which every accepted call leaves in the workspace
 abbrev pub record-of : Grid → ℕ → List ℕ → List ℕ

@@ -15,7 +15,7 @@ use Rattle.grid.proofs.Attributes.{adjacent-symmetric, attribute-increasing}
 use Rattle.grid.proofs.Whole.{grid-whole}
 use Rattle.opening.specs.Opening.{at-least, component-at, least-grey}
 use Rattle.opening.specs.Leveling.{Leveling}
-use Rattle.opening.specs.Residue.{falls-from, largest, largest-place, thresholds, openings-by, residue-by, index-by}
+use Rattle.opening.specs.Residue.{falls-from, largest, largest-place, threshold-tests, openings-by, residue-by, index-by}
 use Rattle.opening.proofs.Levels.{least-grey-le, least-grey-attained}
 use Rattle.opening.proofs.Components.{component-grey}
 use Rattle.opening.proofs.Leveling.{opened-leveling, leveling-ext}
@@ -138,7 +138,7 @@ module _ (grid : Grid) (a : ℕ) (original : List ℕ) where
           → chain-falls original calls p
           ≡ falls-from
           (grey original p)
-          (openings-by (pixels grid) (adjacent grid) (thresholds (attribute grid a) steps) (grey original) p)
+          (openings-by (pixels grid) (adjacent grid) (threshold-tests (attribute grid a) steps) (grey original) p)
       falls-residues p below =
           rw
           (← same-steps, original-opened p below)

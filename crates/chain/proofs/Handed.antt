@@ -15,7 +15,7 @@ use Rattle.grid.specs.Attributes.{attribute}
 use Rattle.grid.specs.declared.Grid.{Grid}
 use Rattle.grid.proofs.Attributes.{adjacent-symmetric, attribute-increasing}
 use Rattle.opening.specs.Opening.{at-least}
-use Rattle.opening.specs.Residue.{falls-from, total, largest, rising, thresholds, openings-by}
+use Rattle.opening.specs.Residue.{falls-from, total, largest, rising, threshold-tests, openings-by}
 use Rattle.opening.proofs.Levels.{cond-case}
 use Rattle.opening.proofs.Opened.{opened-le}
 use Rattle.opening.proofs.Threshold.{opened-after}
@@ -140,7 +140,7 @@ module _ (grid : Grid) (a : ℕ) where
   -- the falls of p along the openings of g, from the opening at s on
   abbrev pub opening-falls : ℕ → List ℕ → (ℕ → ℕ) → ℕ → List ℕ
   opening-falls s steps g p =
-      falls-from (opening grid a s g p) (openings-by (pixels grid) (adjacent grid) (thresholds (attribute grid a) steps) g p)
+      falls-from (opening grid a s g p) (openings-by (pixels grid) (adjacent grid) (threshold-tests (attribute grid a) steps) g p)
 
   -- where the thresholds rise, the falls of a pixel are those of its openings
   pub chain-falls-openings : (s : ℕ) (g : ℕ → ℕ) (given : List ℕ) (calls : List Call) → Named grid a given calls

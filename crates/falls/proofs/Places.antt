@@ -11,13 +11,13 @@ use lib.ListN.{length, getD, length-map, List·getD-map}
 use borrow.Author.Tests.{le-leb, lt-leb}
 use Rattle.sets.specs.Sets.{Positions}
 use Rattle.opening.specs.Opening.{Keeps, at-least}
-use Rattle.opening.specs.Residue.{rising, thresholds}
-use Rattle.opening.proofs.Residue.{thresholds-narrow}
+use Rattle.opening.specs.Residue.{rising, threshold-tests}
+use Rattle.opening.proofs.Residue.{threshold-tests-narrow}
 use Rattle.falls.specs.Falls.{outlasted, places-before}
 use Rattle.falls.proofs.Outlasted.{outlasted-le, outlasted-before, outlasted-past}
 
 pub places-outlasted : (attr : Positions → ℕ) (s : Positions) (steps : List ℕ)
-    → outlasted s (thresholds attr steps) ≡ places-before (attr s) steps
+    → outlasted s (threshold-tests attr steps) ≡ places-before (attr s) steps
 unfolding outlasted places-before
 places-outlasted attr s [] = refl
 places-outlasted attr s (t ∷ rest) = rw (places-outlasted attr s rest) refl
@@ -31,31 +31,31 @@ module _ (a : ℕ) (steps : List ℕ) where
   abbrev some : Positions
   some q = true
 
-  outlast : outlasted some (thresholds same steps) ≡ places-before a steps
+  outlast : outlasted some (threshold-tests same steps) ≡ places-before a steps
   outlast = places-outlasted same some steps
 
-  test-at : (i : ℕ) → getD (thresholds same steps) i (at-least same 0) some ≡ leb (getD steps i 0) a
+  test-at : (i : ℕ) → getD (threshold-tests same steps) i (at-least same 0) some ≡ leb (getD steps i 0) a
   test-at i = ap (λ (k : Keeps). k some) (List·getD-map (at-least same) steps i 0)
 
   pub places-le : places-before a steps ≤ length steps
-  places-le = omega (arith, outlast, outlasted-le some (thresholds same steps), length-map steps (at-least same))
+  places-le = omega (arith, outlast, outlasted-le some (threshold-tests same steps), length-map steps (at-least same))
 
   -- at most as many as stand before a threshold above a
   pub places-above : (i : ℕ) → a < getD steps i 0 → places-before a steps ≤ i
   places-above i l =
-      omega (arith, outlast, outlasted-before some (thresholds same steps) (at-least same 0) i (test-at i ∙ lt-leb (getD steps i 0) a l))
+      omega (arith, outlast, outlasted-before some (threshold-tests same steps) (at-least same 0) i (test-at i ∙ lt-leb (getD steps i 0) a l))
 
   -- a threshold of a rising list that is at most a is among them
   pub places-past : rising 0 steps ≡ true → (i : ℕ) → i < length steps → getD steps i 0 ≤ a → i < places-before a steps
   places-past up i b l =
-      let narrow = thresholds-narrow 0 same (λ s t inside. le-refl a) 0 steps up in
+      let narrow = threshold-tests-narrow 0 same (λ s t inside. le-refl a) 0 steps up in
       omega (
         arith,
         outlast,
         outlasted-past
             0
             (at-least same 0)
-            (thresholds same steps)
+            (threshold-tests same steps)
             narrow
             some
             (at-least same 0)

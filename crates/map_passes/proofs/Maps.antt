@@ -12,8 +12,8 @@ use Rattle.sets.specs.Sets.{Positions, table}
 use Rattle.sets.proofs.Laws.{table-ext}
 use Rattle.sets.proofs.Tests.{decided, le-or-lt}
 use Rattle.opening.specs.Opening.{Increasing, at-least}
-use Rattle.opening.specs.Residue.{thresholds}
-use Rattle.opening.proofs.Residue.{thresholds-narrow}
+use Rattle.opening.specs.Residue.{threshold-tests}
+use Rattle.opening.proofs.Residue.{threshold-tests-narrow}
 use Rattle.grid.specs.Pixels.{pixels}
 use Rattle.grid.specs.Neighbours.{adjacent}
 use Rattle.grid.specs.Attributes.{attribute}
@@ -89,8 +89,8 @@ module _ (grid : Grid) (a : ℕ) (wide : 1 ≤ grid .width) {nodes : ℕ} {pictu
       recorded
       whole
       (at-least attr 0)
-      (thresholds attr steps)
-      (thresholds-narrow (pixels grid) attr rise 0 steps (given .rise))
+      (threshold-tests attr steps)
+      (threshold-tests-narrow (pixels grid) attr rise 0 steps (given .rise))
       (length-map steps (at-least attr))
       (places-right (adjacent-symmetric grid) rise (attribute-some grid a) recorded whole steps (given .rise))
       bytes

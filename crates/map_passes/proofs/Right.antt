@@ -16,9 +16,9 @@ use Rattle.sets.proofs.Tests.{decided, le-or-lt}
 use Rattle.connected.specs.Component.{Adjacency, Symmetric}
 use Rattle.opening.specs.Opening.{least-grey, Keeps, Increasing, at-least}
 use Rattle.opening.specs.Node.{node}
-use Rattle.opening.specs.Residue.{rising, thresholds, Narrowing, residue-by, index-by}
+use Rattle.opening.specs.Residue.{rising, threshold-tests, Narrowing, residue-by, index-by}
 use Rattle.opening.proofs.Levels.{cond-case}
-use Rattle.opening.proofs.Residue.{thresholds-narrow}
+use Rattle.opening.proofs.Residue.{threshold-tests-narrow}
 use Rattle.tree.specs.Tree.{representative}
 use Rattle.tree.proofs.Together.{Together}
 use Rattle.tree.proofs.Representatives.{representative-in, representative-grey, representative-below}
@@ -55,11 +55,11 @@ pub places-right : {n nodes : ℕ} {adj : Adjacency} {attr : Positions → ℕ} 
     → Positive n attr → Recorded n nodes adj attr picture words
     → ((p q : ℕ) → p < n → q < n → Together n adj (grey picture) (least-grey n (grey picture)) p q)
     → (steps : List ℕ) → rising 0 steps ≡ true → (q : ℕ) → q < n → Stands n words q
-    → place-at n steps words q ≡ fall-place n adj (thresholds attr steps) (grey picture) q
+    → place-at n steps words q ≡ fall-place n adj (threshold-tests attr steps) (grey picture) q
 unfolding place-of
 places-right {n} {adj = adj} {attr} {picture} {words} symm rise positive recorded whole steps up q b stands =
-    let tests : List Keeps = thresholds attr steps in
-    let narrow : Narrowing n (at-least attr 0) tests = thresholds-narrow n attr rise 0 steps up in
+    let tests : List Keeps = threshold-tests attr steps in
+    let narrow : Narrowing n (at-least attr 0) tests = threshold-tests-narrow n attr rise 0 steps up in
     ⊎-elim
     (λ (w : Parent n adj (grey picture) q (getD words q 0)).
     rw

@@ -12,7 +12,7 @@ use Rattle.sets.specs.Sets.{Positions}
 use Rattle.sets.proofs.Tests.{and-left, and-right}
 use Rattle.connected.specs.Component.{Adjacency}
 use Rattle.opening.specs.Opening.{Keeps, Upward, Increasing, at-least, opened-by}
-use Rattle.opening.specs.Residue.{falls-from, total, last-of, largest, last-place, largest-place, rising, thresholds, Narrowing, openings-by}
+use Rattle.opening.specs.Residue.{falls-from, total, last-of, largest, last-place, largest-place, rising, threshold-tests, Narrowing, openings-by}
 use Rattle.opening.proofs.Levels.{cond-case}
 use Rattle.opening.proofs.Opened.{opened-le, opened-mono}
 use Rattle.opening.proofs.Threshold.{at-least-up, at-least-less}
@@ -37,15 +37,15 @@ falls-total grey [] f = omega arith
 falls-total grey (next ∷ rest) f = omega (arith, f .0, falls-total next rest (f .1))
 
 -- thresholds that rise give tests that get narrower
-pub thresholds-narrow : (n : ℕ) (attr : Positions → ℕ) → Increasing n attr → (low : ℕ) (steps : List ℕ) → rising low steps ≡ true
-    → Narrowing n (at-least attr low) (thresholds attr steps)
+pub threshold-tests-narrow : (n : ℕ) (attr : Positions → ℕ) → Increasing n attr → (low : ℕ) (steps : List ℕ) → rising low steps ≡ true
+    → Narrowing n (at-least attr low) (threshold-tests attr steps)
 unfolding rising
-thresholds-narrow n attr rise low [] up = tt
-thresholds-narrow n attr rise low (t ∷ rest) up =
+threshold-tests-narrow n attr rise low [] up = tt
+threshold-tests-narrow n attr rise low (t ∷ rest) up =
     let above : low < t = ltb-true low t (and-left (ltb low t) (rising t rest) up) in (
       at-least-up n attr rise t,
       at-least-less attr low t (omega arith),
-      thresholds-narrow n attr rise t rest (and-right (ltb low t) (rising t rest) up),
+      threshold-tests-narrow n attr rise t rest (and-right (ltb low t) (rising t rest) up),
     )
 
 module _ (n : ℕ) (adj : Adjacency) (g : ℕ → ℕ) (p : ℕ) (below : p < n) where

@@ -44,8 +44,8 @@ rising low [] = true
 rising low (t ∷ rest) = ltb low t && rising t rest
 
 -- the tests of a list of thresholds
-abbrev pub thresholds : (Positions → ℕ) → List ℕ → List Keeps
-thresholds attr steps = map (at-least attr) steps
+abbrev pub threshold-tests : (Positions → ℕ) → List ℕ → List Keeps
+threshold-tests attr steps = map (at-least attr) steps
 
 -- tests that get narrower: each passes as a set grows, and what passes a test passes the one before
 abbrev pub Narrowing : ℕ → Keeps → List Keeps → Type 0
