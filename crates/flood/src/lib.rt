@@ -1,7 +1,5 @@
 // Flooding of the max-tree with level queues. Part 1 of the workspace receives the parents, part 3 holds the queues. The other parts are
 // neither read nor written.
-pub use levels::fill;
-pub use levels::run_starts;
 ghost use Rattle.visits.specs.Visits.{held, at-entry, at-exit, Ready};
 ghost use Rattle.flood.specs.Calls.{Stepped, Floodable, FloodedBy};
 use grid::Grid;
