@@ -6,9 +6,9 @@ use causes::Cause;
 use grid::Grid;
 
 // The bounds of specs/Judging.antt.
-pub const LONGEST_FILE: usize = 4096;
+const LONGEST_FILE: usize = 4096;
 
-pub const MOST_SIZED: usize = 2048;
+const MOST_SIZED: usize = 2048;
 
 // How many bytes a file has, up to the length of the buffer that it was read into, or that it was not opened or read.
 pub enum Loaded {

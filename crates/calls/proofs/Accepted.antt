@@ -15,7 +15,7 @@ use Rattle.causes.specs.Bounds.{most-steps, words-a-pixel}
 use Rattle.causes.specs.Sides.{sides-fit}
 pub use Rattle.causes.proofs.Laws.{Bounded, bounded}
 use Rattle.causes.specs.declared.Cause.{Cause}
-use Rattle.calls.specs.Judging.{threshold-good, all-good, steps-good, Test, also, judged-on, judged, accepted}
+use Rattle.calls.specs.Judging.{threshold-good, all-good, steps-good, Test, also, verdict-after, verdict-of, accepted}
 use Rattle.calls.specs.Calls.{Build-call, build-tests, build-verdict, Open-call, open-tests, open-verdict, Map-call, map-tests, map-verdict}
 use Rattle.calls.specs.declared.Verdict.{Verdict}
 use Rattle.calls.specs.declared.Verdict.the-variants.{Accepted, Refused}
@@ -40,26 +40,26 @@ step-list steps good =
       each-good = and-right (rising 0 steps) (all-good steps) listed;
     }
 
--- every test of a list held
-unfoldable pub Held : List Test → Type 0
-Held [] = Unit {0}
-Held (test ∷ later) = (test .0 ≡ true) × Held later
+-- every test of a list holds
+unfoldable pub All-hold : List Test → Type 0
+All-hold [] = Unit {0}
+All-hold (test ∷ later) = (test .0 ≡ true) × All-hold later
 
 not-refused : (cause : Cause) → Refused cause ≡ Accepted → ⊥
 not-refused cause e = let clash : _≡_ {A = ℕ} 0 1 = cc in omega arith
 
 -- no test takes a refusal back
-refused-on : (cause : Cause) (tests : List Test) → judged-on (Refused cause) tests ≡ Accepted → ⊥
+refused-on : (cause : Cause) (tests : List Test) → verdict-after (Refused cause) tests ≡ Accepted → ⊥
 unfolding also
 refused-on cause [] e = not-refused cause e
 refused-on cause (test ∷ later) e = refused-on cause later e
 
 -- a call that is accepted passes every test
-pub held : (tests : List Test) → judged tests ≡ Accepted → Held tests
-unfolding Held also
-held [] e = tt
-held ((true, cause) ∷ later) e = (refl, held later e)
-held ((false, cause) ∷ later) e = absurd (refused-on cause later e)
+pub all-hold : (tests : List Test) → verdict-of tests ≡ Accepted → All-hold tests
+unfolding All-hold also
+all-hold [] e = tt
+all-hold ((true, cause) ∷ later) e = (refl, all-hold later e)
+all-hold ((false, cause) ∷ later) e = absurd (refused-on cause later e)
 
 -- what an accepted call has passed whatever else it names
 pub record Passed (grid : Grid) (bytes words : ℕ) : Type 0 where
@@ -68,9 +68,9 @@ pub record Passed (grid : Grid) (bytes words : ℕ) : Type 0 where
   pub words-each : words ≡ words-a-pixel * pixels grid
 
 pub build-passed : (call : Build-call) → build-verdict call ≡ Accepted → Passed (call .grid) (length (call .picture)) (length (call .workspace))
-unfolding Held
+unfolding All-hold
 build-passed call ok =
-    let h = held (build-tests call) ok in
+    let h = all-hold (build-tests call) ok in
     record { sides = h .0; a-byte-each = eqb-true _ _ (h .1 .0); words-each = eqb-true _ _ (h .1 .1 .1 .0) }
 
 pub record Open-passed (call : Open-call) : Type 0 where
@@ -79,9 +79,9 @@ pub record Open-passed (call : Open-call) : Type 0 where
   pub output : length (call .output) ≡ pixels (call .grid)
 
 pub open-passed : (call : Open-call) → open-verdict call ≡ Accepted → Open-passed call
-unfolding Held
+unfolding All-hold
 open-passed call ok =
-    let h = held (open-tests call) ok in
+    let h = all-hold (open-tests call) ok in
     let named = h .1 .1 .1 in
     record {
       common = record { sides = h .0; a-byte-each = eqb-true _ _ (h .1 .0); words-each = eqb-true _ _ (named .1 .0) };
@@ -96,9 +96,9 @@ pub record Map-passed (call : Map-call) : Type 0 where
   pub index : length (call .index) ≡ pixels (call .grid)
 
 pub map-passed : (call : Map-call) → map-verdict call ≡ Accepted → Map-passed call
-unfolding Held
+unfolding All-hold
 map-passed call ok =
-    let h = held (map-tests call) ok in
+    let h = all-hold (map-tests call) ok in
     let named = h .1 .1 .1 in
     record {
       common = record { sides = h .0; a-byte-each = eqb-true _ _ (h .1 .0); words-each = eqb-true _ _ (named .1 .0) };

@@ -16,7 +16,7 @@ use Rattle.opening.specs.Residue.{threshold-tests, residue-by, index-by}
 use Rattle.tree.specs.Tree.{workspace, number-of-nodes}
 use Rattle.causes.specs.Causes.{number-of}
 use Rattle.causes.specs.declared.Cause.the-variants.{Steps}
-use Rattle.calls.specs.Judging.{threshold-good, steps-good, Test, judged, picture-tests, workspace-test, output-test}
+use Rattle.calls.specs.Judging.{threshold-good, steps-good, Test, verdict-of, picture-tests, workspace-test, output-test}
 use Rattle.calls.specs.declared.Verdict.{Verdict}
 use Rattle.calls.specs.declared.Verdict.the-variants.{Accepted, Refused}
 use Rattle.calls.specs.declared.Built.{Built}
@@ -49,6 +49,10 @@ abbrev pub after : Verdict → List ℕ → List ℕ → List ℕ
 after Accepted written lent = written
 after (Refused cause) written lent = lent
 
+-- a slice that a function is lent, in its contract
+abbrev Lent : Type 0 → Type 0
+Lent E = Both (RefT (List ℕ)) E
+
 -- Building: what a call names and is lent.
 pub record Build-call : Type 0 where
   pub picture : List ℕ
@@ -57,7 +61,7 @@ pub record Build-call : Type 0 where
   pub workspace : List ℕ
 
 -- the same from the parameters of a function, by what they hold at entry
-abbrev pub build-call : {E F : Type 0} → Both (RefT (List ℕ)) E → Grid → ℕ → Both (RefT (List ℕ)) F → Build-call
+abbrev pub build-call : {E F : Type 0} → Lent E → Grid → ℕ → Lent F → Build-call
 build-call picture grid attribute workspace =
     record { picture = now (picture .entry); grid = grid; attribute = attribute; workspace = now (workspace .entry) }
 
@@ -69,7 +73,7 @@ build-tests call =
     ∷ []
 
 abbrev pub build-verdict : Build-call → Verdict
-build-verdict call = judged (build-tests call)
+build-verdict call = verdict-of (build-tests call)
 
 -- "Building answers the number of nodes."
 abbrev pub built-by : Verdict → ℕ → Built
@@ -100,16 +104,13 @@ pub record Open-call : Type 0 where
   pub workspace : List ℕ
   pub output : List ℕ
 
-abbrev pub open-call : {E F G : Type 0} → Both (RefT (List ℕ)) E → Grid → ℕ → ℕ → Both (RefT (List ℕ)) F → Both (RefT (List ℕ)) G → Open-call
+abbrev pub opening-of : List ℕ → Grid → ℕ → ℕ → List ℕ → List ℕ → Open-call
+opening-of picture grid a t workspace output =
+    record { picture = picture; grid = grid; attribute = a; threshold = t; workspace = workspace; output = output }
+
+abbrev pub open-call : {E F G : Type 0} → Lent E → Grid → ℕ → ℕ → Lent F → Lent G → Open-call
 open-call picture grid attribute threshold workspace output =
-    record {
-      picture = now (picture .entry);
-      grid = grid;
-      attribute = attribute;
-      threshold = threshold;
-      workspace = now (workspace .entry);
-      output = now (output .entry);
-    }
+    opening-of (now (picture .entry)) grid attribute threshold (now (workspace .entry)) (now (output .entry))
 
 -- its tests, in order; the verdict is its answer
 abbrev pub open-tests : Open-call → List Test
@@ -121,7 +122,7 @@ open-tests call =
     ∷ []
 
 abbrev pub open-verdict : Open-call → Verdict
-open-verdict call = judged (open-tests call)
+open-verdict call = verdict-of (open-tests call)
 
 -- the workspace and the output after it
 unfoldable pub open-workspace : Open-call → List ℕ
@@ -145,17 +146,28 @@ pub record Map-call : Type 0 where
   pub residue : List ℕ
   pub index : List ℕ
 
-abbrev pub map-call : {E F G H I : Type 0} → Both (RefT (List ℕ)) E → Grid → ℕ → Both (RefT (List ℕ)) F → Both (RefT (List ℕ)) G → Both (RefT (List ℕ)) H → Both (RefT (List ℕ)) I → Map-call
-map-call picture grid attribute steps workspace residue index =
+abbrev pub mapping-of : List ℕ → Grid → ℕ → List ℕ → List ℕ → List ℕ → List ℕ → Map-call
+mapping-of picture grid a steps workspace residue index =
     record {
-      picture = now (picture .entry);
+      picture = picture;
       grid = grid;
-      attribute = attribute;
-      steps = now (steps .entry);
-      workspace = now (workspace .entry);
-      residue = now (residue .entry);
-      index = now (index .entry);
+      attribute = a;
+      steps = steps;
+      workspace = workspace;
+      residue = residue;
+      index = index;
     }
+
+abbrev pub map-call : {E F G H I : Type 0} → Lent E → Grid → ℕ → Lent F → Lent G → Lent H → Lent I → Map-call
+map-call picture grid attribute steps workspace residue index =
+    mapping-of
+    (now (picture .entry))
+    grid
+    attribute
+    (now (steps .entry))
+    (now (workspace .entry))
+    (now (residue .entry))
+    (now (index .entry))
 
 -- its tests, in order; the verdict is its answer
 abbrev pub map-tests : Map-call → List Test
@@ -168,7 +180,7 @@ map-tests call =
     ∷ []
 
 abbrev pub map-verdict : Map-call → Verdict
-map-verdict call = judged (map-tests call)
+map-verdict call = verdict-of (map-tests call)
 
 -- the workspace and the two maps after it
 unfoldable pub map-workspace : Map-call → List ℕ

@@ -1,7 +1,7 @@
 -- When a call on a picture is refused, and for which cause. Only lengths and named numbers decide, never a grey.
 use Prim.Native.Nat.{ℕ, _*_}
 use mathlib.Core.Bool.{Bool, true, false, cond, _&&_, _||_}
-use mathlib.Core.List.{List, [], _∷_, _++_}
+use mathlib.Core.List.{List, [], _∷_}
 use lib.Dec.{leb, eqb}
 use lib.ListN.{length}
 use Rattle.opening.specs.Residue.{rising}
@@ -42,13 +42,13 @@ also Accepted test = cond (test .0) Accepted (Refused (test .1))
 also (Refused first) test = Refused first
 
 -- the verdict after further tests, in their order
-abbrev pub judged-on : Verdict → List Test → Verdict
-judged-on verdict [] = verdict
-judged-on verdict (test ∷ later) = judged-on (also verdict test) later
+abbrev pub verdict-after : Verdict → List Test → Verdict
+verdict-after verdict [] = verdict
+verdict-after verdict (test ∷ later) = verdict-after (also verdict test) later
 
 -- a call is judged by its tests in order: the first that fails gives the cause
-abbrev pub judged : List Test → Verdict
-judged tests = judged-on Accepted tests
+abbrev pub verdict-of : List Test → Verdict
+verdict-of tests = verdict-after Accepted tests
 
 -- "Order for library calls on a picture: 1 to 6." The first three, by the grid, the picture's bytes and the attribute.
 abbrev pub picture-tests : Grid → ℕ → ℕ → List Test

@@ -4,7 +4,7 @@ ghost use mathlib.Core.Path.{_≡_};
 ghost use lib.Dec.{eqb};
 ghost use Rattle.causes.specs.Bounds.{words-a-pixel};
 ghost use Rattle.grid.specs.Pixels.{pixels};
-ghost use Rattle.calls.specs.Judging.{attribute-good, threshold-good, steps-good, also, judged, picture-tests};
+ghost use Rattle.calls.specs.Judging.{attribute-good, threshold-good, steps-good, also, verdict-of, picture-tests};
 use grid::Grid;
 
 // Whether a call is accepted, and if not the first cause that applies. This is also what an opening call and a map call answer.
@@ -21,7 +21,7 @@ pub enum Built {
 
 // One test more on a call. It decides where all tests before it held.
 pub fn also(verdict: Verdict, good: bool, cause: causes::Cause) -> Verdict
-    ensures { λ r. ⌜ r ≡ also verdict (good, cause) ⌝ }
+    ensures answer { λ r. ⌜ r ≡ also verdict (good, cause) ⌝ }
 {
     match verdict {
         Verdict::Refused(first) => {
@@ -37,7 +37,7 @@ pub fn also(verdict: Verdict, good: bool, cause: causes::Cause) -> Verdict
 }
 
 pub fn attribute_good(attribute: u32) -> bool
-    ensures { λ r. ⌜ r ≡ attribute-good attribute ⌝ }
+    ensures answer { λ r. ⌜ r ≡ attribute-good attribute ⌝ }
 {
     if attribute == 1 {
         return true;
@@ -49,7 +49,7 @@ pub fn attribute_good(attribute: u32) -> bool
 }
 
 pub fn threshold_good(threshold: u32) -> bool
-    ensures { λ r. ⌜ r ≡ threshold-good threshold ⌝ }
+    ensures answer { λ r. ⌜ r ≡ threshold-good threshold ⌝ }
 {
     if threshold < 1 {
         return false;
@@ -59,7 +59,7 @@ pub fn threshold_good(threshold: u32) -> bool
 
 // Whether a list of thresholds is a step list. At most 256 of them are looked at.
 pub fn steps_good(steps: &[u32]) -> bool
-    ensures { λ r. ⌜ r ≡ steps-good (now (steps .entry)) ⌝ }
+    ensures answer { λ r. ⌜ r ≡ steps-good (now (steps .entry)) ⌝ }
 {
     if steps.len() < 1 {
         return false;
@@ -85,14 +85,14 @@ pub fn steps_good(steps: &[u32]) -> bool
 
 // Whether a lent run has one entry for each pixel.
 pub fn entry_each(grid: Grid, entries: usize) -> bool
-    ensures { λ r. ⌜ r ≡ eqb entries (pixels grid) ⌝ }
+    ensures answer { λ r. ⌜ r ≡ eqb entries (pixels grid) ⌝ }
 {
     entries == grid::pixels(grid)
 }
 
 // Whether a workspace has the words for each pixel. Sides that do not fit may have too many pixels to be multiplied again.
 pub fn words_each(grid: Grid, words: usize) -> bool
-    ensures { λ r. ⌜ r ≡ eqb words (words-a-pixel * pixels grid) ⌝ }
+    ensures answer { λ r. ⌜ r ≡ eqb words (words-a-pixel * pixels grid) ⌝ }
 {
     if words % causes::WORDS_A_PIXEL != 0 {
         return false;
@@ -102,7 +102,7 @@ pub fn words_each(grid: Grid, words: usize) -> bool
 
 // The tests that every call on a picture starts with: its sides, its picture's bytes and its attribute.
 pub fn judge_picture(grid: Grid, bytes: usize, attribute: u32) -> Verdict
-    ensures { λ r. ⌜ r ≡ judged (picture-tests grid bytes attribute) ⌝ }
+    ensures answer { λ r. ⌜ r ≡ verdict-of (picture-tests grid bytes attribute) ⌝ }
 {
     let by_sides = also(
         Verdict::Accepted,

@@ -60,10 +60,11 @@ fn extended(value: u32, digit: u8) -> u32 {
     if b'9' < digit {
         return value;
     }
-    if 429496728 < value {
+    let longer = (value as u64) * 10 + ((digit - b'0') as u64);
+    if 4294967295 < longer {
         return value;
     }
-    value * 10 + ((digit - b'0') as u32)
+    longer as u32
 }
 
 fn value(digits: &[u8]) -> u32 {

@@ -33,7 +33,7 @@ pub enum Cause {
 }
 
 pub fn number(cause: Cause) -> u32
-    ensures { λ r. ⌜ r ≡ number-of cause ⌝ }
+    ensures answer { λ r. ⌜ r ≡ number-of cause ⌝ }
 {
     match cause {
         Cause::Sides => 1,
@@ -56,7 +56,7 @@ pub fn number(cause: Cause) -> u32
 
 // Whether a picture may have these sides. Each side is tested before the two are multiplied.
 pub fn fit(width: u32, height: u32) -> bool
-    ensures { λ r. ⌜ r ≡ sides-fit width height ⌝ }
+    ensures answer { λ r. ⌜ r ≡ sides-fit width height ⌝ }
 {
     if width < 1 {
         return false;

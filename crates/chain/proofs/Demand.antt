@@ -27,8 +27,8 @@ use Rattle.calls.specs.Judging.{steps-good, accepted as is-accepted, verdict-nu
 use Rattle.calls.specs.declared.Verdict.{Verdict}
 use Rattle.calls.specs.declared.Verdict.the-variants.{Accepted, Refused}
 use Rattle.calls.proofs.Accepted.{bounded, step-list}
-use Rattle.calls.specs.Calls.{grey, opening, open-verdict, open-output, Map-call, map-verdict, map-residue, map-index, residue-map, index-map}
-use Rattle.chain.specs.Chain.{Call, opening-of, mapping-of, verdict, accepted, answered, handed-on, Chain, Claim, Named, Equal, Whole, No-node-between, chain-picture, accepted-thresholds, largest-threshold, chain-falls, chain-residues, chain-indices}
+use Rattle.calls.specs.Calls.{grey, opening, opening-of, open-verdict, open-output, Map-call, mapping-of, map-verdict, map-residue, map-index, residue-map, index-map}
+use Rattle.chain.specs.Chain.{Call, verdict, accepted, answered, handed-on, Chain, Claim, Named, Equal, Whole, No-node-between, chain-picture, accepted-thresholds, largest-threshold, chain-falls, chain-residues, chain-indices}
 use Rattle.chain.proofs.Handed.{Opened-at, opened-picture-at, output-accepted, handed-refused, chain-opened, chain-falls-openings, chain-falls-total}
 
 -- what a refused call answers

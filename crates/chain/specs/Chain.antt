@@ -18,7 +18,7 @@ use Rattle.causes.specs.Causes.{number-of}
 use Rattle.causes.specs.Sides.{sides-fit}
 use Rattle.causes.specs.declared.Cause.{Cause}
 use Rattle.calls.specs.Judging.{steps-good, accepted as is-accepted, verdict-numbers}
-use Rattle.calls.specs.Calls.{grey, Open-call, open-verdict, open-output, Map-call, map-verdict, map-residue, map-index}
+use Rattle.calls.specs.Calls.{grey, Open-call, opening-of, open-verdict, open-output, mapping-of, map-verdict, map-residue, map-index}
 use Rattle.calls.specs.declared.Verdict.{Verdict}
 use Rattle.calls.specs.declared.Verdict.the-variants.{Accepted, Refused}
 
@@ -29,23 +29,6 @@ pub record Call : Type 0 where
   pub threshold : ℕ
   pub workspace : List ℕ
   pub output : List ℕ
-
--- an opening call and a map call on a picture
-abbrev pub opening-of : List ℕ → Grid → ℕ → ℕ → List ℕ → List ℕ → Open-call
-opening-of picture grid a t workspace output =
-    record { picture = picture; grid = grid; attribute = a; threshold = t; workspace = workspace; output = output }
-
-abbrev pub mapping-of : List ℕ → Grid → ℕ → List ℕ → List ℕ → List ℕ → List ℕ → Map-call
-mapping-of picture grid a steps workspace residue index =
-    record {
-      picture = picture;
-      grid = grid;
-      attribute = a;
-      steps = steps;
-      workspace = workspace;
-      residue = residue;
-      index = index;
-    }
 
 -- a call of a chain with the picture that it is given
 abbrev pub given-to : List ℕ → Call → Open-call

@@ -11,6 +11,7 @@ use Rattle.sets.proofs.Laws.{count-le}
 use Rattle.grid.specs.Neighbours.{adjacent}
 use Rattle.grid.specs.declared.Grid.{Grid}
 use Rattle.sets.proofs.Tables.{table-long, table-read}
+use Rattle.causes.specs.Bounds.{most-pixels}
 use Rattle.levels.specs.Levels.{grey, darker, level-counts, entry-sum, starts-of}
 use Rattle.levels.specs.Workspace.{Sized}
 use Rattle.levels.proofs.Counts.{by-cases, equal-or-not}
@@ -28,7 +29,7 @@ first-pixel F = rw (F .whole) (mul-pos (F .wide) (F .high))
 
 -- all counts add up to the pixels
 pub counts-fit :
-    (picture : List ℕ) {counts : List ℕ} → counts ≡ level-counts (length picture) picture → length picture ≤ 1048576
+    (picture : List ℕ) {counts : List ℕ} → counts ≡ level-counts (length picture) picture → length picture ≤ most-pixels
     → entry-sum counts 256 < 2 ^ 64
 counts-fit picture {counts} C small =
     omega (

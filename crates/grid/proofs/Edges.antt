@@ -7,7 +7,8 @@ use native.Mathlib.Numerals.{add-one}
 use native.Mathlib.Decide.{ℕ-discrete}
 use native.Mathlib.Nat.{suc-mod, mod-lt, mod-eq-of-lt, mod-self, div-add-mod', add-mod-right, add-div-right, eq-of-mul-eq-mul-right}
 use native.Mathlib.Omega.{arith}
-use Rattle.grid.specs.Neighbours.{next-in-row, next-in-column, edge-neighbours, Share-edge}
+use Rattle.grid.specs.Neighbours.{next-in-row, next-in-column, edge-neighbours, adjacent, Share-edge}
+use Rattle.grid.specs.declared.Grid.{Grid}
 use Rattle.grid.proofs.Sides.{to-right, to-below, to-left, to-above, side-of, below-is, right-is, right-inside, is-next-in-row, is-next-in-column}
 
 module _ (w : ℕ) (wide : 0 < w) where
@@ -71,10 +72,14 @@ module _ (w : ℕ) (wide : 0 < w) where
       (λ (e : p / w ≡ q / w + 1). to-above w p q (shares-column q p (sym (column .0)) e))
       (column .1)
 
-  -- "Neighbours share an edge."
-  pub neighbours-share-edge : (p q : ℕ) → edge-neighbours w p q ≡ true ↔ Share-edge w p q
-  neighbours-share-edge p q = (
+  edges-shared : (p q : ℕ) → edge-neighbours w p q ≡ true ↔ Share-edge w p q
+  edges-shared p q = (
     λ (e : edge-neighbours w p q ≡ true).
         ⊎-elim (one-sided p q) (λ f. swapped q p (one-sided q p f)) (side-of w p q e),
     sided p q,
   )
+
+-- "Neighbours share an edge."
+pub neighbours-share-edge : (grid : Grid) → 0 < grid .width → (p q : ℕ) → adjacent grid p q ≡ true ↔ Share-edge (grid .width) p q
+unfolding adjacent
+neighbours-share-edge grid wide p q = edges-shared (grid .width) wide p q

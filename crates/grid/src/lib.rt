@@ -9,7 +9,7 @@ pub struct Grid {
 
 // How many pixels a picture has. The product of any two sides fits 64 bits.
 pub fn pixels(grid: Grid) -> usize
-    ensures { λ r. ⌜ r ≡ pixels grid ⌝ }
+    ensures answer { λ r. ⌜ r ≡ pixels grid ⌝ }
 {
     (grid.width as usize) * (grid.height as usize)
 }

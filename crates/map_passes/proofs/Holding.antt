@@ -11,8 +11,9 @@ use lib.Seq.{getD-take, getD-drop, getD-set-same, getD-set-other, take-at, drop-
 use borrow.Author.Tests.{eqb-true, eqb-false}
 use borrow.Rule.Slice.PartMut.{postOf, putMid}
 use Rattle.sets.proofs.Tests.{decided}
-use Rattle.map_passes.specs.Settle.{down, word-of, pair-of, Settleable, both-at, stored}
-use Rattle.map_passes.specs.Passes.{held-of, Settled}
+use Rattle.causes.specs.Bounds.{most-steps}
+use Rattle.map_passes.specs.Settle.{down, word-of, pair-of, Settleable, both-at, settled-at}
+use Rattle.map_passes.specs.Passes.{node-words, Settled}
 use Rattle.map_passes.proofs.Settling.{word-never, pair-never, word-low, pair-high}
 
 -- what is read of the words
@@ -20,13 +21,13 @@ pub words-read : (n : ℕ) (ws : List ℕ) (x : ℕ) → x < 3 * n → getD ws x
 words-read n ws x b = sym (getD-take (3 * n) ws x 0 b)
 
 -- what is read of a pair
-pub pair-read : (n : ℕ) (ws : List ℕ) (q : ℕ) → q < n → getD ws (4 * n + q) 0 ≡ getD (held-of n ws) (n + q) 0
+pub pair-read : (n : ℕ) (ws : List ℕ) (q : ℕ) → q < n → getD ws (4 * n + q) 0 ≡ getD (node-words n ws) (n + q) 0
 pair-read n ws q b =
     let there : 4 * n + q ≡ 3 * n + (n + q) = omega arith in
     rw there (sym (getD-take (2 * n) (drop (3 * n) ws) (n + q) 0 (omega arith) ∙ getD-drop (3 * n) ws (n + q) 0))
 
 -- what is put back as the fourth and the fifth part
-pub held-back : (n : ℕ) (ws held : List ℕ) → 3 * n ≤ length ws → length held ≡ 2 * n → held-of n (putMid (3 * n) (2 * n) ws held) ≡ held
+pub held-back : (n : ℕ) (ws held : List ℕ) → 3 * n ≤ length ws → length held ≡ 2 * n → node-words n (putMid (3 * n) (2 * n) ws held) ≡ held
 held-back n ws held l size =
     ap (take (2 * n)) (drop-at (take (3 * n) ws) (held ++ postOf (3 * n) (2 * n) ws) (3 * n) (length-take-le (3 * n) ws l))
     ∙ take-at held (postOf (3 * n) (2 * n) ws) (2 * n) size
@@ -67,7 +68,7 @@ settled-other {n} {words = words} {held} r word pair b size q c inside off apart
 -- the node of r is settled by what is stored
 module _ (n m : ℕ) (place : ℕ → ℕ) (picture words held : List ℕ) (r : ℕ) (wide : length picture ≡ n)
     (ready : Settleable picture m (place r) held r (getD words r 0)) (byte : getD picture r 0 < 256)
-    (high : (getD words r 0 ≡ r → ⊥) → getD held (n + getD words r 0) 0 / 256 ≤ 256) where
+    (high : (getD words r 0 ≡ r → ⊥) → getD held (n + getD words r 0) 0 / 256 ≤ most-steps) where
   module _ (word pair : ℕ)
       (is-word : word ≡ word-of m (place r) (down picture r (getD words r 0)) (getD held (getD words r 0) 0))
       (is-pair : pair ≡ pair-of m (place r) (down picture r (getD words r 0)) (getD held (getD words r 0) 0) (getD held (n + getD words r 0) 0))
@@ -115,6 +116,6 @@ module _ (n m : ℕ) (place : ℕ → ℕ) (picture words held : List ℕ) (r : 
         high = rw (here-pair, is-pair) (pair-high ready byte (getD held (n + getD words r 0) 0) high);
       }
 
-  pub settled-here : Settled n m place picture words (stored picture m (place r) held r (getD words r 0)) r
-  unfolding stored
+  pub settled-here : Settled n m place picture words (settled-at picture m (place r) held r (getD words r 0)) r
+  unfolding settled-at
   settled-here = rw wide (settled-with _ _ refl refl)

@@ -21,7 +21,7 @@ use Rattle.grid.specs.declared.Grid.{Grid}
 use Rattle.grid.proofs.Attributes.{adjacent-symmetric, attribute-increasing, attribute-some}
 use Rattle.grid.proofs.Whole.{grid-whole}
 use Rattle.calls.specs.Calls.{grey, residue-map, index-map}
-use Rattle.map_passes.specs.Passes.{Stands, Climbable, Given, held-of, Settled, Progress, Settled-to, holder, pair-at, Spreadable, Ready}
+use Rattle.map_passes.specs.Passes.{Stands, Climbable, Given, node-words, Settled, Progress, Settled-to, holder, pair-at, Spreadable, Ready}
 use Rattle.map_passes.specs.Recorded.{Recorded, Written}
 use Rattle.map_passes.proofs.Holding.{words-read, pair-read}
 use Rattle.map_passes.proofs.Spreading.{holder-self, holder-other}
@@ -34,10 +34,10 @@ holder-at n words q = holder q (getD words q 0) (getD words (n + q) 0)
 module _ {n nodes m : ℕ} {place : ℕ → ℕ} {picture words ws : List ℕ} (climb : Climbable n nodes picture words)
     (prog : Progress n m place picture words ws nodes) where
   -- at the end every node is settled
-  settled-all : (q : ℕ) → q < n → Stands n words q → Settled n m place picture words (held-of n ws) q
+  settled-all : (q : ℕ) → q < n → Stands n words q → Settled n m place picture words (node-words n ws) q
   settled-all q b stands =
       let (j, l, e) = climb .order .place q b (lt-ltb 0 _ stands) in
-      subst (λ (p : ℕ). Settled n m place picture words (held-of n ws) p) e (prog .done j l)
+      subst (λ (p : ℕ). Settled n m place picture words (node-words n ws) p) e (prog .done j l)
 
   holder-stands : (q : ℕ) → q < n → (holder-at n words q < n) × Stands n words (holder-at n words q)
   holder-stands q b =
@@ -53,7 +53,7 @@ module _ {n nodes m : ℕ} {place : ℕ → ℕ} {picture words ws : List ℕ} (
   word-kept x b = words-read n ws x b ∙ ap (λ (l : List ℕ). getD l x 0) (prog .kept)
 
   -- the pair that a pixel finds
-  pair-found : (q : ℕ) → q < n → pair-at n ws q ≡ getD (held-of n ws) (n + holder-at n words q) 0
+  pair-found : (q : ℕ) → q < n → pair-at n ws q ≡ getD (node-words n ws) (n + holder-at n words q) 0
   pair-found q b =
       rw
       (word-kept q (omega arith), word-kept (n + q) (omega arith))

@@ -9,7 +9,8 @@ use lib.Dec.{eqb, ltb}
 use lib.ListN.{length, getD, set}
 use borrow.Author.Tests.{lt-ltb, le-ltb, ltb-true}
 use Rattle.opening.proofs.Levels.{cond-case}
-use Rattle.map_passes.specs.Settle.{down, shared-fall, run-of, word-of, pair-of, Settleable, stored}
+use Rattle.causes.specs.Bounds.{most-steps}
+use Rattle.map_passes.specs.Settle.{down, shared-fall, run-of, word-of, pair-of, Settleable, settled-at}
 
 shared-le : (word k : ℕ) → shared-fall word k ≤ word % 256
 unfolding shared-fall
@@ -74,26 +75,26 @@ module _ {picture : List ℕ} {m k : ℕ} {held : List ℕ} {r parent : ℕ} (re
       (λ e. omega (arith, run-le (ltb-true k m e) refl))
       (λ e. omega arith)
 
-  -- an index is at most 256, if that of the parent is
-  pub pair-high : getD picture r 0 < 256 → (pair : ℕ) → ((parent ≡ r → ⊥) → pair / 256 ≤ 256)
-      → pair-of m k (down picture r parent) (getD held parent 0) pair / 256 ≤ 256
+  -- an index is no more than the most steps, if that of the parent is
+  pub pair-high : getD picture r 0 < 256 → (pair : ℕ) → ((parent ≡ r → ⊥) → pair / 256 ≤ most-steps)
+      → pair-of m k (down picture r parent) (getD held parent 0) pair / 256 ≤ most-steps
   unfolding pair-of run-of
   pair-high byte pair few =
       cond-case
-      (λ (x : ℕ). x / 256 ≤ 256)
+      (λ (x : ℕ). x / 256 ≤ most-steps)
       (ltb k m)
       (λ e.
       let falls : k < m = ltb-true k m e in
       cond-case
-      (λ (x : ℕ). x / 256 ≤ 256)
+      (λ (x : ℕ). x / 256 ≤ most-steps)
       (ltb (pair % 256) (down picture r parent + shared-fall (getD held parent 0) k))
       (λ wins. omega (arith, run-le falls refl, ready .few))
       (λ stays. few (λ own. omega (arith, ready .root own))))
       (λ e. omega arith)
 
   -- what the code stores: for a node that never falls
-  pub stored-never : m ≤ k → set (set held r (k * 256)) (length picture + r) 0 ≡ stored picture m k held r parent
-  unfolding stored
+  pub stored-never : m ≤ k → set (set held r (k * 256)) (length picture + r) 0 ≡ settled-at picture m k held r parent
+  unfolding settled-at
   stored-never never = rw (word-never m k (down picture r parent) (getD held parent 0) never, pair-never m k (down picture r parent) (getD held parent 0) (getD held (length picture + parent) 0) never) refl
 
   -- for one that does, s being what it shares with its parent
@@ -104,12 +105,12 @@ module _ {picture : List ℕ} {m k : ℕ} {held : List ℕ} {r parent : ℕ} (re
 
     pub stored-wins : getD held (length picture + parent) 0 % 256 < down picture r parent + s
         → set (set held r (k * 256 + (down picture r parent + s))) (length picture + r) ((k + 1) * 256 + (down picture r parent + s))
-        ≡ stored picture m k held r parent
-    unfolding stored
+        ≡ settled-at picture m k held r parent
+    unfolding settled-at
     stored-wins more = rw (word-falls m k (down picture r parent) (getD held parent 0) falls, pair-falls m k (down picture r parent) (getD held parent 0) (getD held (length picture + parent) 0) falls, ← run-is, lt-ltb _ _ more) refl
 
     pub stored-stays : down picture r parent + s ≤ getD held (length picture + parent) 0 % 256
         → set (set held r (k * 256 + (down picture r parent + s))) (length picture + r) (getD held (length picture + parent) 0)
-        ≡ stored picture m k held r parent
-    unfolding stored
+        ≡ settled-at picture m k held r parent
+    unfolding settled-at
     stored-stays less = rw (word-falls m k (down picture r parent) (getD held parent 0) falls, pair-falls m k (down picture r parent) (getD held parent 0) (getD held (length picture + parent) 0) falls, ← run-is, le-ltb _ _ less) refl

@@ -13,16 +13,16 @@ use borrow.Rule.Slice.PartMut.{putMid, mid-len, take-put, same-len-mid}
 use Rattle.sets.proofs.Tests.{decided, le-or-lt, last-or-below}
 use Rattle.levels.specs.Workspace.{order-of}
 use Rattle.listing.proofs.Listing.{listed-rises, listed-apart}
-use Rattle.causes.specs.Bounds.{words-a-pixel}
+use Rattle.causes.specs.Bounds.{words-a-pixel, most-steps}
 use Rattle.places.specs.Places.{place-of}
 use Rattle.places.proofs.Places.{place-of-le, place-of-root}
-use Rattle.map_passes.specs.Settle.{Settleable, stored}
-use Rattle.map_passes.specs.Passes.{place-at, held-of, Stands, Climbable, Given, Settled, Progress, Settled-to, Visitable}
+use Rattle.map_passes.specs.Settle.{Settleable, settled-at}
+use Rattle.map_passes.specs.Passes.{place-at, node-words, Stands, Climbable, Given, Settled, Progress, Settled-to, Visitable}
 use Rattle.map_passes.proofs.Holding.{words-read, held-back, settled-other, settled-here}
 
 -- places among m steps: the root never falls
 record Placed (m : ℕ) (place : ℕ → ℕ) (words : List ℕ) : Type 0 where
-  pub few : m ≤ 256
+  pub few : m ≤ most-steps
   pub among : (q : ℕ) → place q ≤ m
   pub root : (q : ℕ) → getD words q 0 ≡ q → m ≤ place q
 
@@ -37,7 +37,7 @@ module _ {n nodes m : ℕ} {place : ℕ → ℕ} {picture words ws : List ℕ} {
 
   -- a darker representative is settled
   darker-settled : (q : ℕ) → q < n → Stands n words q → getD picture q 0 < getD picture (order-of n words i) 0
-      → Settled n m place picture words (held-of n ws) q
+      → Settled n m place picture words (node-words n ws) q
   darker-settled q c stands dark =
       let (j, l, e) = climb .order .place q c (lt-ltb 0 _ stands) in
       let before : j < i =
@@ -45,19 +45,19 @@ module _ {n nodes m : ℕ} {place : ℕ → ℕ} {picture words ws : List ℕ} {
       (λ (late : i ≤ j). absurd (omega (arith, listed-rises (climb .order) i j late l, ap (λ (p : ℕ). getD picture p 0) e)))
       (λ early. early)
       (le-or-lt i j) in
-      subst (λ (p : ℕ). Settled n m place picture words (held-of n ws) p) e (prog .done j before)
+      subst (λ (p : ℕ). Settled n m place picture words (node-words n ws) p) e (prog .done j before)
 
-  held-size : length (held-of n ws) ≡ 2 * n
+  held-size : length (node-words n ws) ≡ 2 * n
   held-size = simp (length-take, length-drop) (omega (arith, prog .ws-size))
 
   -- the parent of the node at hand, unless that is the root
   parent-settled : (getD words (order-of n words i) 0 ≡ order-of n words i → ⊥)
-      → Settled n m place picture words (held-of n ws) (getD words (order-of n words i) 0)
+      → Settled n m place picture words (node-words n ws) (getD words (order-of n words i) 0)
   parent-settled apart =
       let r : ℕ = order-of n words i in
       darker-settled (getD words r 0) (climb .within r at-inside) (climb .leads r at-inside) (climb .darker r at-inside (at-stands i b) apart)
 
-  turn-ready : Settleable picture m (place (order-of n words i)) (held-of n ws) (order-of n words i) (getD words (order-of n words i) 0)
+  turn-ready : Settleable picture m (place (order-of n words i)) (node-words n ws) (order-of n words i) (getD words (order-of n words i) 0)
   turn-ready =
       let r : ℕ = order-of n words i in
       let parent : ℕ = getD words r 0 in
@@ -92,14 +92,14 @@ module _ {n nodes m : ℕ} {place : ℕ → ℕ} {picture words ws : List ℕ} {
   -- the node is settled
   module _ (byte : getD picture (order-of n words i) 0 < 256) (held : List ℕ)
       (is : held
-      ≡ stored picture m (place (order-of n words i)) (held-of n ws) (order-of n words i) (getD words (order-of n words i) 0))
+      ≡ settled-at picture m (place (order-of n words i)) (node-words n ws) (order-of n words i) (getD words (order-of n words i) 0))
     where
       settled-now : Settled n m place picture words held (order-of n words i)
       settled-now =
-          rw is (settled-here n m place picture words (held-of n ws) (order-of n words i) size turn-ready byte (λ apart. parent-settled apart .high))
+          rw is (settled-here n m place picture words (node-words n ws) (order-of n words i) size turn-ready byte (λ apart. parent-settled apart .high))
 
       settled-still : (j : ℕ) → j < i → Settled n m place picture words held (order-of n words j)
-      unfolding stored
+      unfolding settled-at
       settled-still j early =
           let (off, apart) = apart-now j early in
           let within : order-of n words j < n = climb .order .within j (omega arith) in
@@ -118,7 +118,7 @@ module _ {n nodes m : ℕ} {place : ℕ → ℕ} {picture words ws : List ℕ} {
           apart
           (prog .done j early))
 
-      turn-settles : (ws' : List ℕ) → take (3 * n) ws' ≡ take (3 * n) ws → held-of n ws' ≡ held → length ws' ≡ length ws
+      turn-settles : (ws' : List ℕ) → take (3 * n) ws' ≡ take (3 * n) ws → node-words n ws' ≡ held → length ws' ≡ length ws
           → Progress n m place picture words ws' (i + 1)
       turn-settles ws' front back same =
           record {
@@ -181,7 +181,7 @@ module _ {n : ℕ} {picture steps ws : List ℕ} {i : ℕ} (turn : Visitable n p
     pub visit-settles : getD picture (getD ws (2 * n + i) 0) 0 < 256 → {held : List ℕ}
         → length held ≡ length (take (5 * n - 3 * n) (drop (3 * n) ws))
         → held
-        ≡ stored picture (length steps) k (take (5 * n - 3 * n) (drop (3 * n) ws)) (getD ws (2 * n + i) 0) (getD ws (getD ws (2 * n + i) 0) 0)
+        ≡ settled-at picture (length steps) k (take (5 * n - 3 * n) (drop (3 * n) ws)) (getD ws (2 * n + i) 0) (getD ws (getD ws (2 * n + i) 0) 0)
         → Settled-to n picture steps (take (3 * n) ws) (putMid (3 * n) (5 * n - 3 * n) ws held) (i + 1)
     visit-settles byte {held} same is =
         let fits : 3 * n ≤ length ws = omega (arith, turn .progress .ws-size) in

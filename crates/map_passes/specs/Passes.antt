@@ -57,17 +57,17 @@ pub record Settled (n m : ℕ) (place : ℕ → ℕ) (picture words held : List 
       (getD held (getD words q 0) 0)
       (getD held (n + getD words q 0) 0)
   pub low : getD held q 0 % 256 ≤ getD picture q 0
-  pub high : getD held (n + q) 0 / 256 ≤ 256
+  pub high : getD held (n + q) 0 / 256 ≤ most-steps
 
 -- what the nodes hold: the fourth and the fifth part
-abbrev pub held-of : ℕ → List ℕ → List ℕ
-held-of n ws = take (2 * n) (drop (3 * n) ws)
+abbrev pub node-words : ℕ → List ℕ → List ℕ
+node-words n ws = take (2 * n) (drop (3 * n) ws)
 
 -- the first i nodes of the list are settled, and the words are as they were
 pub record Progress (n m : ℕ) (place : ℕ → ℕ) (picture words ws : List ℕ) (i : ℕ) : Type 0 where
   pub ws-size : length ws ≡ words-a-pixel * n
   pub kept : take (3 * n) ws ≡ words
-  pub done : (j : ℕ) → j < i → Settled n m place picture words (held-of n ws) (order-of n words j)
+  pub done : (j : ℕ) → j < i → Settled n m place picture words (node-words n ws) (order-of n words j)
 
 -- the same where the steps give the places
 abbrev pub Settled-to : ℕ → List ℕ → List ℕ → List ℕ → List ℕ → ℕ → Type 0
@@ -94,7 +94,7 @@ pub record Spreadable (n : ℕ) (ws : List ℕ) (residues indices : ℕ) : Type 
   pub residues-size : residues ≡ n
   pub indices-size : indices ≡ n
   pub within : (q : ℕ) → q < n → getD ws q 0 < n
-  pub high : (q : ℕ) → q < n → pair-at n ws q / 256 ≤ 256
+  pub high : (q : ℕ) → q < n → pair-at n ws q / 256 ≤ most-steps
 
 -- what both passes are lent
 pub record Ready (picture steps : List ℕ) (nodes : ℕ) (ws residues indices : List ℕ) : Type 0 where

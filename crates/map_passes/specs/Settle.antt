@@ -47,8 +47,8 @@ abbrev pub both-at : ℕ → List ℕ → ℕ → ℕ → ℕ → List ℕ
 both-at n held r word pair = set (set held r word) (n + r) pair
 
 -- the words of the nodes after the node of r, which falls at place k of m steps, is settled
-unfoldable pub stored : List ℕ → ℕ → ℕ → List ℕ → ℕ → ℕ → List ℕ
-stored picture m k held r parent =
+unfoldable pub settled-at : List ℕ → ℕ → ℕ → List ℕ → ℕ → ℕ → List ℕ
+settled-at picture m k held r parent =
     let word : ℕ = getD held parent 0 in
     let pair : ℕ = getD held (length picture + parent) 0 in
     both-at

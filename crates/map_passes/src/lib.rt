@@ -8,7 +8,7 @@ ghost use lib.ListN.{length, take};
 ghost use Rattle.sets.specs.Sets.{table};
 ghost use Rattle.causes.specs.Bounds.{words-a-pixel};
 ghost use Rattle.places.specs.Places.{small-places};
-ghost use Rattle.map_passes.specs.Settle.{shared-fall, Settleable, stored};
+ghost use Rattle.map_passes.specs.Settle.{shared-fall, Settleable, settled-at};
 ghost use Rattle.map_passes.specs.Passes.{Given, Settled-to, Visitable, holder, pair-at, Spreadable, Ready};
 ghost use Rattle.map_passes.specs.Recorded.{Written};
 
@@ -24,7 +24,7 @@ fn shared(word: u32, k: u32) -> u32
 // the parent's largest residue.
 fn settle(picture: &[u8], count: usize, k: usize, r: usize, parent: usize, held: &mut [u32])
     requires { ⌜ Settleable (now picture) count k (now held) r parent ⌝ }
-    ensures { λ _. ⌜ now (held .exit) ≡ stored (now (picture .entry)) count k (now (held .entry)) r parent ⌝ }
+    ensures { λ _. ⌜ now (held .exit) ≡ settled-at (now (picture .entry)) count k (now (held .entry)) r parent ⌝ }
 {
     let n = picture.len();
     if count <= k {

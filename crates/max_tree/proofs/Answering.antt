@@ -3,19 +3,17 @@
 use Prim.Native.Nat.{ℕ, _*_}
 use mathlib.Core.List.{List, [], _∷_, _++_}
 use mathlib.Core.Path.{_≡_, refl, sym, ap, _∙_}
-use lib.ListN.{length, take, replicate}
-use borrow.Author.Tests.{eqb-true}
+use lib.ListN.{take, replicate}
 use Rattle.grid.specs.Pixels.{pixels}
 use Rattle.grid.specs.declared.Grid.{Grid}
 use Rattle.tree.specs.Tree.{workspace}
 use Rattle.causes.specs.declared.Cause.{Cause}
-use Rattle.calls.specs.Judging.{Test, picture-tests, workspace-test}
 use Rattle.calls.specs.Calls.{Build-call, build-verdict, built, built-numbers, build-workspace}
 use Rattle.calls.specs.declared.Verdict.{Verdict}
 use Rattle.calls.specs.declared.Verdict.the-variants.{Accepted, Refused}
 use Rattle.calls.specs.declared.Built.{Built}
 use Rattle.calls.specs.declared.Built.the-variants.{Nodes, Refused as Not-built}
-use Rattle.calls.proofs.Accepted.{Held, held}
+use Rattle.calls.proofs.Accepted.{build-passed}
 use Rattle.max_tree.specs.Building.{Buildable, Ordered, Whole}
 
 pub whole : {grid : Grid} {a : ℕ} {picture ws ws' : List ℕ} {nodes : ℕ} (n : ℕ) → n ≡ pixels grid → Ordered grid a picture ws nodes → ws' ≡ take (2 * n) ws ++ replicate (4 * n) 0 → Whole grid a picture ws' nodes
@@ -30,29 +28,22 @@ whole {grid} n all ordered cleared =
 abbrev pub Answered : Build-call → Built → List ℕ → Type 0
 Answered call answer left = (built-numbers answer ≡ built-numbers (built call)) × (left ≡ build-workspace call)
 
--- the verdict on a building call
-pub record Judged (call : Build-call) (verdict : Verdict) : Type 0 where
-  pub same : verdict ≡ build-verdict call
-
-module _ {call : Build-call} {verdict : Verdict} (judged : Judged call verdict) where
+-- a call by the verdict that was found on it
+module _ (call : Build-call) {verdict : Verdict} (judged : verdict ≡ build-verdict call) where
   pub answered-refused : {cause : Cause} → verdict ≡ Refused cause → Answered call (Not-built cause) (call .workspace)
   unfolding built build-workspace
   answered-refused {cause} refused =
-      let is : build-verdict call ≡ Refused cause = sym (judged .same) ∙ refused in
+      let is : build-verdict call ≡ Refused cause = sym judged ∙ refused in
       rw is (refl, refl)
 
   pub build-asked : verdict ≡ Accepted → Buildable (call .grid) (call .picture) (call .workspace)
-  unfolding Held
   build-asked accepted =
-      let tests : List Test =
-      picture-tests (call .grid) (length (call .picture)) (call .attribute)
-      ++ workspace-test (call .grid) (length (call .workspace))
-      ∷ [] in
-      let passed = held tests (sym (judged .same) ∙ accepted) in
-      record { sides = passed .0; bytes = eqb-true _ _ (passed .1 .0); words = eqb-true _ _ (passed .1 .1 .1 .0) }
+      let passed = build-passed call (sym judged ∙ accepted) in
+      record { sides = passed .sides; bytes = passed .a-byte-each; words = passed .words-each }
 
-  pub answered-accepted : {left : List ℕ} {nodes : ℕ} → verdict ≡ Accepted → Whole (call .grid) (call .attribute) (call .picture) left nodes → Answered call (Nodes nodes) left
+  pub answered-accepted : {left : List ℕ} {nodes : ℕ} → verdict ≡ Accepted
+      → Whole (call .grid) (call .attribute) (call .picture) left nodes → Answered call (Nodes nodes) left
   unfolding built build-workspace
   answered-accepted accepted W =
-      let is : build-verdict call ≡ Accepted = sym (judged .same) ∙ accepted in
+      let is : build-verdict call ≡ Accepted = sym judged ∙ accepted in
       rw is (ap (λ (k : ℕ). 0 ∷ k ∷ []) (W .number), W .left)

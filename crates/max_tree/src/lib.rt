@@ -1,4 +1,4 @@
-// The max-tree of a picture: the record that is kept of it in a workspace of six words a pixel, part 1 the parents, part 2 the attributes,
+// The max-tree of a picture: the record that is kept of it in a workspace, part 1 the parents, part 2 the attributes,
 // parts 3 to 6 scratch. The flood leaves parent words only, and the passes make the record of them.
 ghost use mathlib.Core.List.{_++_};
 ghost use mathlib.Core.Path.{_≡_};

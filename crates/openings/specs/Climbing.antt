@@ -58,8 +58,8 @@ abbrev pub Opened-before : List ℕ → List ℕ → ℕ → ℕ → ℕ → Lis
 Opened-before picture words n t k output = (p : ℕ) → p < k → Opened-to picture words n t p (grey output p)
 
 -- every position has it
-abbrev pub Opened : List ℕ → List ℕ → ℕ → List ℕ → Type 0
-Opened picture words t output = Opened-before picture words (length picture) t (length picture) output
+abbrev pub All-opened : List ℕ → List ℕ → ℕ → List ℕ → Type 0
+All-opened picture words t output = Opened-before picture words (length picture) t (length picture) output
 
 -- the pass over the positions has come to k
 pub record Pass (picture words : List ℕ) (n t k : ℕ) (output : List ℕ) : Type 0 where

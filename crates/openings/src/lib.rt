@@ -5,7 +5,7 @@ ghost use mathlib.Core.Path.{_≡_};
 ghost use lib.ListN.{length};
 ghost use Rattle.calls.specs.Judging.{verdict-numbers};
 ghost use Rattle.calls.specs.Calls.{grey, open-call, open-verdict, open-workspace, open-output};
-ghost use Rattle.openings.specs.Climbing.{Climbable, From, Kept, Opened-to, Opened, Pass};
+ghost use Rattle.openings.specs.Climbing.{Climbable, From, Kept, Opened-to, All-opened, Pass};
 use causes::Cause;
 use grid::Grid;
 
@@ -42,7 +42,7 @@ fn new_grey(picture: &[u8], words: &[u32], n: usize, p: usize, threshold: u32, o
 fn open_record(picture: &[u8], words: &[u32], threshold: u32, output: &mut [u8])
     requires { ⌜ Climbable (now picture) (now words) (length (now picture)) ⌝ }
     requires { ⌜ length (now output) ≡ length (now picture) ⌝ }
-    ensures { λ r. ⌜ Opened (now (picture .entry)) (now (words .entry)) threshold (now (output .exit)) ⌝ }
+    ensures { λ r. ⌜ All-opened (now (picture .entry)) (now (words .entry)) threshold (now (output .exit)) ⌝ }
 {
     let n = picture.len();
     let mut p = 0;

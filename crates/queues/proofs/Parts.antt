@@ -10,6 +10,7 @@ use lib.Bits.{bitOr}
 use lib.ListN.{getD, length, set, length-set}
 use lib.Seq.{getD-set-same, getD-set-other}
 use borrow.Author.Tests.{eq-eqb, ne-eqb}
+use Rattle.causes.specs.Bounds.{words-a-pixel, most-pixels}
 use Rattle.levels.specs.Tables.{Changed}
 use Rattle.levels.proofs.Counts.{by-cases, equal-or-not}
 use Rattle.levels.proofs.Tables.{stored}
@@ -37,7 +38,7 @@ root-or-lt root n q h hq =
     by-cases (root-or-is root n q h) (λ w. rw (w .1) (w .0)) (λ w. rw (w .1) hq)
 
 -- a store to part 1, and one to part 3
-module _ (n : ℕ) (ws : List ℕ) (size : length ws ≡ 6 * n) where
+module _ (n : ℕ) (ws : List ℕ) (size : length ws ≡ words-a-pixel * n) where
   pub parents-stored : (q v : ℕ) → q < n → Changed n (λ x. getD ws x 0) (λ x. getD (set ws q v) x 0) q v
   parents-stored q v h = stored n ws q v (omega arith)
 
@@ -75,7 +76,7 @@ pub pushed :
 pushed n q l r x ws heads tails roots F e =
     let size = F .sized .words in
     let ws' = set ws q r in
-    let size' : length (set ws q r) ≡ 6 * n = length-set ws q r ∙ size in
+    let size' : length (set ws q r) ≡ words-a-pixel * n = length-set ws q r ∙ size in
     let A = parents-stored n ws size q r (F .within) in
     let B = order-stored n ws' size' (getD tails l 0) q (F .free) in
     record {
@@ -141,7 +142,7 @@ next-kept {n} {l} {m} {ws} {roots} C N x =
 
 pub next-small :
     {n l m : ℕ} {ws roots : List ℕ} → Closable n ws roots l → NextOpen n roots l m
-    → getD (remarked roots l n (without-level (mark-word (set roots l n) l) l)) m 0 ≤ 1048576
+    → getD (remarked roots l n (without-level (mark-word (set roots l n) l) l)) m 0 ≤ most-pixels
 next-small {n} {l} {m} {ws} {roots} C N =
     let e = next-kept C N (without-level (mark-word (set roots l n) l) l) in
     omega (arith, C .within m (omega (arith, N .lower, C .level)), C .sized .small)

@@ -16,7 +16,6 @@ use Rattle.steps.specs.Lines.{ends-line, longer, lines, attribute-head, step-he
 use Rattle.causes.specs.Bounds.{top-threshold}
 use Rattle.calls.proofs.Accepted.{step-list}
 use Rattle.calls.specs.Judging.{attribute-good, threshold-good, all-good, steps-good}
-use Rattle.opening.specs.Residue.{rising}
 use Rattle.steps.specs.Answer.{attribute-in, steps-in, parse-answer}
 use Rattle.steps_laws.specs.Spelled.{name-of, spelled-steps, spelled-file, Gives}
 use Rattle.steps.proofs.Splitting.{ended-some}

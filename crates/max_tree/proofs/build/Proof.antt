@@ -1,6 +1,10 @@
 -- `max_tree::build` meets its contract. Assumes nothing.
+use mathlib.Core.Path.{_≡_}
+use denote.Ref.{now}
+use Rattle.causes.specs.declared.Cause.the-variants.{Workspace}
+use Rattle.calls.specs.Calls.{Build-call, build-verdict}
 use Rattle.calls.proofs.Judging.{tested}
-use Rattle.max_tree.proofs.Answering.{Judged, answered-refused, build-asked, answered-accepted}
+use Rattle.max_tree.proofs.Answering.{answered-refused, build-asked, answered-accepted}
 use borrow.Author.Needs.{needs}
 use Rattle.max_tree.proofs.build.Statement.{statement}
 use Rattle.max_tree.proofs.build.Tie as tie
@@ -17,28 +21,34 @@ also-requires c κs = search needs
 enum-known-verdict : tie.Need-enum-known-verdict
 enum-known-verdict c = search needs
 
--- the verdict is that of the call
-judged : (c : tie.After-also)
-    → let a = c .before .before .before .before .before .args in
-    Judged (record { picture = a .picture .now; grid = a .grid; attribute = a .attribute; workspace = a .workspace .now }) (c .also .result)
-judged c = record { same = tested _ (c .also .ensures) (c .before .before .judge-picture .ensures) (c .before .words-each .ensures) }
+-- the call, and that the verdict found is the one on it
+abbrev call : tie.After-also → Build-call
+call c =
+    let a = c .before .before .before .before .before .args in
+    record { picture = now (a .picture); grid = a .grid; attribute = a .attribute; workspace = now (a .workspace) }
+
+judged : (c : tie.After-also) → c .also .result ≡ build-verdict (call c)
+judged c = tested Workspace (c .also .ensures) (c .before .before .judge-picture .ensures) (c .before .words-each .ensures)
 
 returns : tie.Need-returns
-returns c = answered-refused (judged (c .before .before .before)) (c .before .verdict .given .1)
+returns c = let at = c .before .before .before in answered-refused (call at) (judged at) (c .before .verdict .given .1)
 
 enum-told : tie.Need-enum-told
 enum-told c = search needs
 
 build-record-requires : tie.Need-build-record-requires
-build-record-requires c κs = build-asked (judged (c .before .before .before)) (c .before .enum-told .given .1)
+build-record-requires c κs =
+    let at = c .before .before .before in
+    build-asked (call at) (judged at) (c .before .enum-told .given .1)
 
 same-length : tie.Need-same-length
 same-length c = search needs
 
 returns-2 : tie.Need-returns-2
 returns-2 c =
-    let at-told = c .before .before .before .before in
-    answered-accepted (judged (at-told .before .before)) (at-told .enum-told .given .1) (c .before .before .build-record .ensures)
+    let told = c .before .before .before .before in
+    let at = told .before .before in
+    answered-accepted (call at) (judged at) (told .enum-told .given .1) (c .before .before .build-record .ensures)
 
 pub build-spec : {M : Type 1} → statement M
 build-spec =

@@ -1,7 +1,7 @@
 -- `teldruf::teldruf_build` meets its contract, by what `max_tree::build` answers and writes. Assumes nothing.
 use mathlib.Core.Path.{_∙_}
 use Rattle.calls.specs.Calls.{built-numbers}
-use Rattle.teldruf.proofs.Answering.{answered}
+use Rattle.teldruf.proofs.Answering.{code-told}
 use borrow.Author.Needs.{needs}
 use Rattle.teldruf.proofs.teldruf_build.Statement.{statement}
 use Rattle.teldruf.proofs.teldruf_build.Tie as tie
@@ -27,7 +27,7 @@ same-length c = search needs
 returns : tie.Need-returns
 returns c =
     let called = c .before .before .before .before .before in
-    (answered built-numbers (c .before .total .given .1) (called .build .ensures .0), called .build .ensures .1)
+    (code-told built-numbers (c .before .total .given .1) (called .build .ensures .0), called .build .ensures .1)
 
 same-length-2 : tie.Need-same-length-2
 same-length-2 c = search needs
@@ -35,7 +35,7 @@ same-length-2 c = search needs
 returns-2 : tie.Need-returns-2
 returns-2 c =
     let called = c .before .before .before .before .before .before in
-    (c .refused .ensures ∙ answered built-numbers (c .before .before .cause .given .1) (called .build .ensures .0), called .build .ensures .1)
+    (c .refused .ensures ∙ code-told built-numbers (c .before .before .cause .given .1) (called .build .ensures .0), called .build .ensures .1)
 
 pub teldruf-build-spec : {M : Type 1} → statement M
 teldruf-build-spec =

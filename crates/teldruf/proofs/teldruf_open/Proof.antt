@@ -1,7 +1,7 @@
 -- `teldruf::teldruf_open` meets its contract, by what `openings::open` answers and writes. Assumes nothing.
 use mathlib.Core.Path.{_∙_}
 use Rattle.calls.specs.Judging.{verdict-numbers}
-use Rattle.teldruf.proofs.Answering.{answered}
+use Rattle.teldruf.proofs.Answering.{code-told}
 use borrow.Author.Needs.{needs}
 use Rattle.teldruf.proofs.teldruf_open.Statement.{statement}
 use Rattle.teldruf.proofs.teldruf_open.Tie as tie
@@ -27,7 +27,7 @@ same-length-2 c = search needs
 returns : tie.Need-returns
 returns c =
     let called = c .before .before .before .before .before .before in
-    (answered verdict-numbers (c .enum-told .given .1) (called .«open» .ensures .0), called .«open» .ensures .1)
+    (code-told verdict-numbers (c .enum-told .given .1) (called .«open» .ensures .0), called .«open» .ensures .1)
 
 same-length-3 : tie.Need-same-length-3
 same-length-3 c = search needs
@@ -38,7 +38,7 @@ same-length-4 c = search needs
 returns-2 : tie.Need-returns-2
 returns-2 c =
     let called = c .before .before .before .before .before .before .before .before in
-    (c .refused .ensures ∙ answered verdict-numbers (c .before .before .cause .given .1) (called .«open» .ensures .0), called .«open» .ensures .1)
+    (c .refused .ensures ∙ code-told verdict-numbers (c .before .before .cause .given .1) (called .«open» .ensures .0), called .«open» .ensures .1)
 
 pub teldruf-open-spec : {M : Type 1} → statement M
 teldruf-open-spec =

@@ -1,7 +1,7 @@
 -- `teldruf::teldruf_write_pgm` meets its contract, by what `pgm::write` answers. Assumes nothing.
 use mathlib.Core.Path.{_∙_}
 use Rattle.pgm_write.specs.Write.{written-numbers}
-use Rattle.teldruf.proofs.Answering.{answered}
+use Rattle.teldruf.proofs.Answering.{code-told}
 use borrow.Author.Needs.{needs}
 use Rattle.teldruf.proofs.teldruf_write_pgm.Statement.{statement}
 use Rattle.teldruf.proofs.teldruf_write_pgm.Tie as tie
@@ -24,7 +24,7 @@ same-length c = search needs
 returns : tie.Need-returns
 returns c =
     let called = c .before .before .before .before .before in
-    (answered written-numbers (c .before .total .given .1) (called .write .ensures .0), called .write .ensures .1)
+    (code-told written-numbers (c .before .total .given .1) (called .write .ensures .0), called .write .ensures .1)
 
 same-length-2 : tie.Need-same-length-2
 same-length-2 c = search needs
@@ -32,7 +32,7 @@ same-length-2 c = search needs
 returns-2 : tie.Need-returns-2
 returns-2 c =
     let called = c .before .before .before .before .before .before in
-    (c .refused .ensures ∙ answered written-numbers (c .before .before .cause .given .1) (called .write .ensures .0), called .write .ensures .1)
+    (c .refused .ensures ∙ code-told written-numbers (c .before .before .cause .given .1) (called .write .ensures .0), called .write .ensures .1)
 
 pub teldruf-write-pgm-spec : {M : Type 1} → statement M
 teldruf-write-pgm-spec =
