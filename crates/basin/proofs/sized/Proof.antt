@@ -46,6 +46,9 @@ map-requires c κs = search needs
 enum-told : tie.Need-enum-told
 enum-told c = search needs
 
+abbrev after-map : tie.After-enum-told → tie.After-map
+after-map c = c .before .before .before .before .before .before .before .before
+
 -- after the map call: the call, and that its parts of the maps have come back as long as they were lent
 abbrev call : tie.After-map → Map-call
 call c =
@@ -81,17 +84,17 @@ slice-reshare-prefix-listing : tie.Need-slice-reshare-prefix-listing
 slice-reshare-prefix-listing c = search needs
 
 slice-aggregate-listing : tie.Need-slice-aggregate-listing
-slice-aggregate-listing c = let mapped = c .before .before .before .before .before .before .before .before .before in sym (residue-back mapped)
+slice-aggregate-listing c = let mapped = after-map (c .before) in sym (residue-back mapped)
 
 slice-reshare-prefix-listing-2 : tie.Need-slice-reshare-prefix-listing-2
 slice-reshare-prefix-listing-2 c = search needs
 
 slice-aggregate-listing-2 : tie.Need-slice-aggregate-listing-2
-slice-aggregate-listing-2 c = let mapped = c .before .before .before .before .before .before .before .before .before .before in sym (index-back mapped)
+slice-aggregate-listing-2 c = let mapped = after-map (c .before .before) in sym (index-back mapped)
 
 listing-requires : tie.Need-listing-requires
 listing-requires c κs =
-    let mapped = c .before .before .before .before .before .before .before .before .before .before in
+    let mapped = after-map (c .before .before) in
     let told = c .before .before in (
       done-wide (call mapped) (sym (verdict-determined _ _ (mapped .map .ensures .0)) ∙ told .enum-told .given .1),
       residue-back mapped,
