@@ -38,13 +38,13 @@ static void *lend(size_t bytes) {
     return memset(memory, 0xa5, bytes);
 }
 
-static uint64_t c_call(forest_fn *forest, int part, const picture_t *p, uint32_t attribute, result_t *r) {
+static uint64_t c_call(record_fn *record, map_fn *map, int part, const picture_t *p, uint32_t attribute, result_t *r) {
     if (part == BUILD)
-        return c_build(forest, p, attribute, r->ws);
+        return c_build(record, p, attribute, r->ws);
     if (part == OPENING)
-        c_open(forest, p, attribute, THRESHOLD, r->ws, r->output);
+        c_open(record, p, attribute, THRESHOLD, r->ws, r->output);
     else
-        c_map(forest, p, attribute, steps, STEPS, r->ws, r->residue, r->index);
+        map(p, attribute, steps, STEPS, r->ws, r->residue, r->index);
     return 0;
 }
 
@@ -55,7 +55,8 @@ static uint64_t call(int way, int part, const picture_t *picture, uint32_t attri
     if (way == EARLIER)
         return before_call(part, picture, attribute, r);
 #endif
-    return c_call(way == FLOOD ? flood : join, part, picture, attribute, r);
+    return way == FLOOD ? c_call(flood_record, flood_map, part, picture, attribute, r)
+                        : c_call(join_record, join_map, part, picture, attribute, r);
 }
 
 static double timed(int way, int part, const picture_t *picture, uint32_t attribute, result_t *r) {
@@ -112,7 +113,7 @@ static double run_picture(const char *name, uint32_t attribute, int runs, result
 }
 
 int main(int count, char **words) {
-    const char *names[] = {"floc", "noise", "ramp", "flat", "checkerboard"};
+    const char *names[] = {"floc", "noise", "smooth", "ramp", "flat", "checkerboard"};
     const char *attributes[] = {"area", "height", "width"};
     uint32_t attribute = AREA;
     int runs = count > 2 ? atoi(words[2]) : 7, differing = 0;
@@ -128,7 +129,7 @@ int main(int count, char **words) {
            STEPS, runs);
     printf("%-13s %-8s %9s %9s %9s   %8s %8s", "picture", "call", "library", "flooding", "union", "to flood", "to union");
     puts(WAYS > 3 ? "   earlier  to that" : "");
-    for (int k = 0; k < 5; k++) {
+    for (int k = 0; k < 6; k++) {
         double time = run_picture(names[k], attribute, runs < 1 ? 1 : runs, results);
         differing += time < 0;
         if (time > 0)

@@ -33,19 +33,71 @@ uint64_t before_call(int part, const picture_t *picture, uint32_t attribute, res
 /* Pictures of many kinds; the same for the same name and size. */
 int picture_make(picture_t *picture, const char *name, uint32_t width, uint32_t height);
 
+/* Two ways to the record in parts 1 and 2, with the list of the representatives in part 3. They answer the number of nodes. */
+typedef uint32_t record_fn(const picture_t *picture, uint32_t attribute, uint32_t *ws);
+
+uint32_t flood_record(const picture_t *picture, uint32_t attribute, uint32_t *ws);
+uint32_t join_record(const picture_t *picture, uint32_t attribute, uint32_t *ws);
+
 /*
- * Two ways to a forest: each pixel's parent word is the root of its node, a root's the root of the parent node, the last root's
- * its own; parts 3 to 6 are theirs to use.
+ * Floods the picture: part 1 holds the number of each pixel's node, part 2 the numbers in the order of closing, and of the three words of
+ * a node at 3n + 3 x number the second its parent's number. Answers the number of nodes.
  */
-void flood(const picture_t *picture, uint32_t *ws);
-void join(const picture_t *picture, uint32_t *ws);
+uint32_t flood(const picture_t *picture, uint32_t *ws);
 
-typedef void forest_fn(const picture_t *picture, uint32_t *ws);
+/* Building and opening, the same for both. */
+uint32_t c_build(record_fn *record, const picture_t *picture, uint32_t attribute, uint32_t *ws);
+void c_open(record_fn *record, const picture_t *picture, uint32_t attribute, uint32_t threshold, uint32_t *ws, uint8_t *output);
+void clear(const picture_t *picture, uint32_t *ws);
 
-/* The passes that follow, the same for both. */
-uint32_t c_build(forest_fn *forest, const picture_t *picture, uint32_t attribute, uint32_t *ws);
-void c_open(forest_fn *forest, const picture_t *picture, uint32_t attribute, uint32_t threshold, uint32_t *ws, uint8_t *output);
-void c_map(forest_fn *forest, const picture_t *picture, uint32_t attribute, const uint32_t *steps, size_t count, uint32_t *ws,
-           uint8_t *residue, uint16_t *index);
+/* The maps: after the flood by the numbers of the nodes, after union-find by the list of the representatives. */
+typedef void map_fn(const picture_t *picture, uint32_t attribute, const uint32_t *steps, size_t count, uint32_t *ws, uint8_t *residue,
+                    uint16_t *index);
+
+map_fn flood_map, join_map;
+
+/* How many of the steps stand before the first one above each attribute below 256. */
+void small_places(const uint32_t *steps, size_t count, uint32_t small[256]);
+uint32_t outlasted(const uint32_t *steps, uint32_t count, uint32_t attribute);
+
+/* An accumulator is a count, or the last row (column) above the first, which is stored as 4,095 less it. */
+static inline uint32_t single(uint32_t attribute, uint32_t width, uint32_t p) {
+    if (attribute == AREA)
+        return 1;
+    uint32_t place = attribute == HEIGHT ? p / width : p % width;
+    return place << 12 | (4095 - place);
+}
+
+static inline uint32_t combine(uint32_t attribute, uint32_t a, uint32_t b) {
+    if (attribute == AREA)
+        return a + b;
+    uint32_t last = a >> 12 > b >> 12 ? a >> 12 : b >> 12;
+    uint32_t first = (a & 4095) > (b & 4095) ? a & 4095 : b & 4095;
+    return last << 12 | first;
+}
+
+static inline uint32_t measure(uint32_t attribute, uint32_t word) {
+    return attribute == AREA ? word : (word >> 12) - (4095 - (word & 4095)) + 1;
+}
+
+/* a where the test is 1, b where it is 0, without a branch */
+static inline uint32_t choose(uint32_t test, uint32_t a, uint32_t b) { return b ^ ((a ^ b) & -test); }
+
+/*
+ * What a node that falls at place k of `count` steps holds, from what its parent holds, in one word: its run, the place and its running
+ * fall, 0 where it falls at none; and its pair, the index less 1 and the largest residue, 0 where that is 0.
+ */
+static inline uint32_t settled(uint32_t count, uint32_t k, uint32_t fall, uint32_t above) {
+    if (k == count)
+        return 0;
+    fall += choose(above >> 24 == k, above >> 16 & 255, 0);
+    uint32_t run = k << 8 | fall, pair = above & 65535;
+    return run << 16 | choose((pair & 255) < fall, run, pair);
+}
+
+static inline void put_maps(uint32_t word, uint8_t *residue, uint16_t *index) {
+    *residue = word & 255;
+    *index = ((word & 65535) + 255) >> 8;
+}
 
 #endif

@@ -4,9 +4,10 @@
 typedef struct {
     const uint8_t *greys;
     uint32_t n, width;
-    uint32_t *parents, *order;
-    uint32_t heads[256], tails[256], roots[256];
-    uint64_t open[4]; /* the open levels, a bit each */
+    uint32_t *numbers, *closing, *order, *nodes;
+    uint32_t heads[256], tails[256], opened[256]; /* the numbers of the open nodes, n where none is open */
+    uint64_t open[4];                             /* the open levels, a bit each */
+    uint32_t taken, closed;
 } flood_t;
 
 /* Level l owns the run of part 3 from the number of darker pixels on. */
@@ -17,42 +18,46 @@ static void level_runs(flood_t *f) {
     uint32_t darker = 0;
     for (int l = 0; l < 256; l++) {
         f->heads[l] = f->tails[l] = darker;
-        f->roots[l] = f->n;
+        f->opened[l] = f->n;
         darker += counts[l];
     }
 }
 
-/* Puts q at the end of the run of its level; its parent is the root of the open node there, or itself. */
+/* Puts q at the end of the run of its level; its number is that of the open node there, or the next. */
 static inline void push(flood_t *f, uint32_t q, int l) {
-    if (f->roots[l] == f->n)
-        f->roots[l] = q;
-    f->open[l / 64] |= (uint64_t)1 << l % 64;
-    f->parents[q] = f->roots[l];
+    uint32_t k = f->opened[l];
+    if (k == f->n) {
+        k = f->opened[l] = f->taken++;
+        f->open[l / 64] |= (uint64_t)1 << l % 64;
+    }
+    f->numbers[q] = k;
     f->order[f->tails[l]++] = q;
 }
 
 /* Queues a neighbour that was not met. The answer is the level at which the flood goes on. */
 static inline int visit(flood_t *f, uint32_t q, int level) {
-    if (f->parents[q] != f->n)
+    if (f->numbers[q] != f->n)
         return level;
     int l = f->greys[q];
     push(f, q, l);
     return l > level ? l : level;
 }
 
-/* The neighbours of the pixel at the head, until a brighter one moves the flood up. */
-static inline int visit_around(flood_t *f, int level) {
-    uint32_t p = f->order[f->heads[level]], column = p % f->width;
-    int l = level;
-    if (p >= f->width && (l = visit(f, p - f->width, level)) != level)
-        return l;
-    if (column > 0 && (l = visit(f, p - 1, level)) != level)
-        return l;
-    if (column + 1 < f->width && (l = visit(f, p + 1, level)) != level)
-        return l;
-    if (f->n - p > f->width)
-        l = visit(f, p + f->width, level);
-    return l;
+/*
+ * The neighbours of p, the pixel at the head of the level, until a brighter one moves the flood up. The answer is the pixel at which the
+ * flood goes on, p where it stays.
+ */
+static inline uint32_t visit_around(flood_t *f, uint32_t p, int level) {
+    uint32_t column = p % f->width;
+    if (p >= f->width && visit(f, p - f->width, level) != level)
+        return p - f->width;
+    if (column > 0 && visit(f, p - 1, level) != level)
+        return p - 1;
+    if (column + 1 < f->width && visit(f, p + 1, level) != level)
+        return p + 1;
+    if (f->n - p > f->width && visit(f, p + f->width, level) != level)
+        return p + f->width;
+    return p;
 }
 
 /* The brightest open level below, 256 if there is none. */
@@ -64,29 +69,41 @@ static inline int open_below(const flood_t *f, int level) {
     return word == 0 ? 256 : 64 * i + 63 - __builtin_clzll(word);
 }
 
-/* Closes the node of the level: its root's parent is the root of the next darker open level, which is the answer; 256 at the end. */
+/* Closes the node of the level: its parent is the open node of the next darker open level, which is the answer; 256 at the end. */
 static int close_node(flood_t *f, int level) {
     int below = open_below(f, level);
-    uint32_t root = f->roots[level];
-    f->roots[level] = f->n;
+    uint32_t k = f->opened[level];
+    f->opened[level] = f->n;
     f->open[level / 64] -= (uint64_t)1 << level % 64;
-    if (below != 256)
-        f->parents[root] = f->roots[below];
+    f->closing[f->closed++] = k;
+    f->nodes[3 * k + 1] = below == 256 ? k : f->opened[below];
     return below;
 }
 
-void flood(const picture_t *picture, uint32_t *ws) {
-    uint32_t n = picture->width * picture->height;
-    flood_t f = {.greys = picture->greys, .n = n, .width = picture->width, .parents = ws, .order = ws + 2 * (size_t)n};
+uint32_t flood(const picture_t *picture, uint32_t *ws) {
+    size_t n = (size_t)picture->width * picture->height;
+    flood_t f = {.greys = picture->greys, .n = n, .width = picture->width};
+    f.numbers = ws;
+    f.closing = ws + n;
+    f.order = ws + 2 * n;
+    f.nodes = ws + 3 * n;
     level_runs(&f);
     for (uint32_t p = 0; p < n; p++)
-        f.parents[p] = n;
+        f.numbers[p] = n;
+    uint32_t p = 0;
     int level = f.greys[0];
     push(&f, 0, level);
     while (level != 256) {
-        int next = visit_around(&f, level);
-        if (next == level && ++f.heads[level] == f.tails[level])
-            next = close_node(&f, level);
-        level = next;
+        uint32_t next = visit_around(&f, p, level);
+        if (next != p) {
+            p = next;
+            level = f.greys[p];
+        } else {
+            if (++f.heads[level] == f.tails[level])
+                level = close_node(&f, level);
+            if (level != 256)
+                p = f.order[f.heads[level]];
+        }
     }
+    return f.taken;
 }

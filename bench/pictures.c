@@ -41,6 +41,24 @@ static void floc(const picture_t *picture) {
     }
 }
 
+/* Random greys at the corners of squares of 32 pixels a side, and between them weighted means. */
+static void smooth(const picture_t *picture) {
+    enum { SQUARE = 32 };
+    uint32_t width = picture->width, height = picture->height, across = width / SQUARE + 2;
+    uint32_t *corners = malloc((size_t)across * (height / SQUARE + 2) * sizeof *corners);
+    if (corners == NULL)
+        exit(2);
+    for (uint32_t k = 0; k < across * (height / SQUARE + 2); k++)
+        corners[k] = draw(256);
+    for (uint32_t p = 0; p < width * height; p++) {
+        uint32_t row = p / width, column = p % width, y = row % SQUARE, x = column % SQUARE;
+        const uint32_t *c = corners + row / SQUARE * across + column / SQUARE;
+        uint32_t top = c[0] * (SQUARE - x) + c[1] * x, bottom = c[across] * (SQUARE - x) + c[across + 1] * x;
+        picture->greys[p] = (top * (SQUARE - y) + bottom * y) / (SQUARE * SQUARE);
+    }
+    free(corners);
+}
+
 static uint8_t at(const char *name, uint32_t row, uint32_t column) {
     if (!strcmp(name, "noise"))
         return draw(256);
@@ -58,6 +76,10 @@ int picture_make(picture_t *picture, const char *name, uint32_t width, uint32_t 
     state = 2011;
     if (!strcmp(name, "floc")) {
         floc(picture);
+        return 1;
+    }
+    if (!strcmp(name, "smooth")) {
+        smooth(picture);
         return 1;
     }
     for (uint32_t row = 0; row < height; row++)

@@ -166,7 +166,7 @@ module _ (n : ℕ) (adj : Adjacency) (symm : Symmetric adj) (g par : ℕ → ℕ
       (poured-cases g par done r x e)
 
   -- with all the children it is the whole node
-  pub poured-all : (done : Positions) (r x : ℕ) → r < n → x < n → Node-root g par r → ((c : ℕ) → c < n → g r < g c → Node-root g par c → done c ≡ true) → poured g par done r x ≡ branch g par r x
+  pub poured-all : (done : Positions) (r x : ℕ) → r < n → x < n → Node-root g par r → ((c : ℕ) → c < n → g r < g c → Node-root g par c → par c ≡ r → done c ≡ true) → poured g par done r x ≡ branch g par r x
   poured-all done r x b c root full =
       same-truth
       (poured g par done r x)
@@ -189,7 +189,7 @@ module _ (n : ℕ) (adj : Adjacency) (symm : Symmetric adj) (g par : ℕ → ℕ
         deep = m;
         up = child-up r x c m t;
         in-done =
-            full (top g par (suc (g r)) x) (top-below (suc (g r)) x c m) (top-grey (suc (g r)) x c m) (top-last (suc (g r)) x c m);
+            full (top g par (suc (g r)) x) (top-below (suc (g r)) x c m) (top-grey (suc (g r)) x c m) (top-last (suc (g r)) x c m) (child-up r x c m t);
       }))
       (le-or-lt (g x) (g r)))
 

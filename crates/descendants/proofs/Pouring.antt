@@ -1,234 +1,118 @@
--- The pass that adds each node to its parent, in the order of part 3 from its end: what holds when the places from i on have been
--- taken, one more of them, and the end. Assumes nothing.
-use Prim.Native.Nat.{ℕ, _+_, _*_, _-_, _≤_, _<_}
-use mathlib.Core.Bool.{true, false, cond, _&&_, _||_}
+-- The pass that adds each node to its parent, in the order of closing: what holds when the places below i have been taken, one more of
+-- them, and the end. Assumes that neighbours are mutual.
+use Prim.Native.Nat.{ℕ, _+_, _*_, _≤_, _<_}
+use mathlib.Core.Bool.{true, false, cond}
 use mathlib.Core.List.{List}
 use mathlib.Core.Logic.{⊎-elim}
 use mathlib.Core.Path.{_≡_, refl, sym, ap, subst, _∙_}
 use native.Mathlib.Omega.{arith}
-use lib.Dec.{eqb, leb, ltb}
+use lib.Dec.{eqb}
 use lib.ListN.{getD, length, set, length-set}
 use lib.Seq.{getD-set-same, getD-set-other}
-use borrow.Author.Tests.{eqb-true, eqb-false, eq-eqb, ne-eqb, leb-true, le-leb, ltb-true, lt-ltb}
+use borrow.Author.Tests.{eqb-true, eqb-false, eq-eqb, ne-eqb}
 use Rattle.sets.specs.Sets.{Positions}
-use Rattle.sets.specs.Gather.{first-in}
-use Rattle.sets.proofs.Tests.{decided, clash, is-false, same-truth, and-left, and-right, and-both, or-cases, or-left, or-right, le-or-lt}
-use Rattle.sets.proofs.Gather.{gather-ext, first-in-le, first-in-holds}
+use Rattle.sets.proofs.Tests.{decided, same-truth, or-cases, or-left, or-right}
+use Rattle.sets.proofs.Gather.{gather-ext}
 use Rattle.connected.specs.Component.{Adjacency, Symmetric}
-use Rattle.tree.specs.Forest.{Forest, Node-root, node-root}
-use Rattle.tree.proofs.Forest.{node-root-self, node-root-is}
+use Rattle.tree.specs.Forest.{Forest}
+use Rattle.tree.proofs.Forest.{node-root-self}
 use Rattle.causes.specs.Bounds.{words-a-pixel}
 use Rattle.causes.proofs.Lists.{length-two}
 use Rattle.levels.specs.Levels.{grey}
-use Rattle.levels.specs.Workspace.{parent-of, order-of}
+use Rattle.levels.specs.Workspace.{closed-of, lowest-of, up-of, held-of}
 use Rattle.levels.proofs.Counts.{equal-or-not}
+use Rattle.flooding.specs.Numbers.{Numbered, parent-by}
 use Rattle.accumulators.specs.Accumulators.{nothing, combined, measured, gathered, Small}
-use Rattle.branches.specs.Branches.{owned, branch, poured}
-use Rattle.listing.specs.Listing.{Listed}
-use Rattle.parts.specs.Parts.{node-word, roots}
-use Rattle.descendants.specs.Pouring.{Own-held, Pour, poured-at, Pourable, Poured}
 use Rattle.accumulators.proofs.Accumulators.{gathered-small, bound-small, gathered-union}
+use Rattle.branches.specs.Branches.{branch, poured}
 use Rattle.branches.proofs.Branches.{poured-all, poured-none, poured-own, poured-other, poured-apart, poured-more}
-use Rattle.parts.proofs.Parts.{read-one, read-two, read-else}
-use Rattle.parts.proofs.Parts.{lent, returned, lent-long, lent-read, stored-in, two-stored-in}
-use Rattle.listing.proofs.Listing.{listed-rises, listed-apart}
+use Rattle.numbers.proofs.Numbers.{number-forest, parent-first, root-first, first-apart, number-owned}
+use Rattle.parts.proofs.Parts.{lent, returned, lent-long, lent-read, stored-in, two-stored-in, read-one, read-two, read-else}
+use Rattle.descendants.specs.Pouring.{held-at, held-in, Pour, poured-at, Pourable, parents-of, Poured}
+use Rattle.descendants.proofs.Closing.{shut, shut-none, shut-all, shut-not, shut-more, shut-children, shut-parent}
 
--- the place of c in a list of m pixels, m if it is not there
-abbrev pub place-of : ℕ → (ℕ → ℕ) → ℕ → ℕ
-place-of m ord c = first-in m (λ (j : ℕ). eqb (ord j) c)
-
--- the pixels whose places are i or more
-abbrev pub taken : ℕ → (ℕ → ℕ) → ℕ → Positions
-taken m ord i c = leb i (place-of m ord c) && ltb (place-of m ord c) m
-
-module _ (n m : ℕ) (g : ℕ → ℕ) (s : Positions) (ord : ℕ → ℕ) (order : Listed n m g s ord) where
-  place-holds : (c : ℕ) → place-of m ord c < m → ord (place-of m ord c) ≡ c
-  place-holds c b = eqb-true (ord (place-of m ord c)) c (first-in-holds m (λ (j : ℕ). eqb (ord j) c) b)
-
-  place-le : (i : ℕ) → i < m → place-of m ord (ord i) ≤ i
-  place-le i b = first-in-le m (λ (j : ℕ). eqb (ord j) (ord i)) i b (eq-eqb (ord i) (ord i) refl)
-
-  place-below : (c : ℕ) → c < n → s c ≡ true → place-of m ord c < m
-  place-below c b t =
-      let (j, k, e) = order .place c b t in
-      omega (arith, first-in-le m (λ (j : ℕ). eqb (ord j) c) j k (eq-eqb (ord j) c e))
-
-  place-at : (i : ℕ) → i < m → place-of m ord (ord i) ≡ i
-  place-at i b =
-      let p : ℕ = place-of m ord (ord i) in
-      let l : p ≤ i = place-le i b in
-      ⊎-elim (λ k. omega arith) (λ k. absurd (listed-apart order p i k b (place-holds (ord i) (omega arith)))) (le-or-lt i p)
-
-  taken-in : (i c : ℕ) → i ≤ place-of m ord c → place-of m ord c < m → taken m ord i c ≡ true
-  taken-in i c l b =
-      let p : ℕ = place-of m ord c in
-      and-both (leb i p) (ltb p m) (le-leb i p l) (lt-ltb p m b)
-
-  taken-holds : (i c : ℕ) → taken m ord i c ≡ true → (i ≤ place-of m ord c) × (place-of m ord c < m)
-  taken-holds i c e =
-      let p : ℕ = place-of m ord c in
-      (leb-true i p (and-left (leb i p) (ltb p m) e), ltb-true p m (and-right (leb i p) (ltb p m) e))
-
-  -- nothing is taken at first, and everything at last
-  taken-none : (c : ℕ) → taken m ord m c ≡ false
-  taken-none c = is-false (taken m ord m c) (λ e. let (l, b) = taken-holds m c e in omega arith)
-
-  taken-all : (i c : ℕ) → i ≤ 0 → c < n → s c ≡ true → taken m ord i c ≡ true
-  taken-all i c none b t = taken-in i c (omega arith) (place-below c b t)
-
-  module _ (i : ℕ) (pos : 0 < i) (top : i ≤ m) where
-    taken-not : taken m ord i (ord (i - 1)) ≡ false
-    taken-not =
-        is-false
-        (taken m ord i (ord (i - 1)))
-        (λ e. let (l, b) = taken-holds i (ord (i - 1)) e in omega (arith, place-le (i - 1) (omega arith)))
-
-    taken-more : (c : ℕ) → taken m ord (i - 1) c ≡ (taken m ord i c || eqb (ord (i - 1)) c)
-    taken-more c =
-        let p : ℕ = place-of m ord c in
-        same-truth
-        (taken m ord (i - 1) c)
-        (taken m ord i c || eqb (ord (i - 1)) c)
-        (λ e.
-        let (l, b) = taken-holds (i - 1) c e in
-        ⊎-elim
-        (λ z.
-        or-right (taken m ord i c) (eqb (ord (i - 1)) c) (eq-eqb (ord (i - 1)) c (ap ord z ∙ place-holds c b)))
-        (λ z. or-left (taken m ord i c) (eqb (ord (i - 1)) c) (taken-in i c (omega arith) b))
-        (equal-or-not (i - 1) p))
-        (λ e.
-        ⊎-elim
-        (λ f. let (l, b) = taken-holds i c f in taken-in (i - 1) c (omega arith) b)
-        (λ f.
-        let at : p ≡ i - 1 =
-        ap (place-of m ord) (sym (eqb-true (ord (i - 1)) c f)) ∙ place-at (i - 1) (omega arith) in
-        taken-in (i - 1) c (omega arith) (omega arith))
-        (or-cases (taken m ord i c) (eqb (ord (i - 1)) c) e))
-
-    -- what is brighter is taken before, what is darker later
-    taken-brighter : (c : ℕ) → c < n → s c ≡ true → g (ord (i - 1)) < g c → taken m ord i c ≡ true
-    taken-brighter c b t l =
-        let p : ℕ = place-of m ord c in
-        let d : p < m = place-below c b t in
-        let same : g (ord p) ≡ g c = ap g (place-holds c d) in
-        ⊎-elim
-        (λ k. taken-in i c k d)
-        (λ k. absurd (omega (arith, listed-rises order p (i - 1) (omega arith) (omega arith))))
-        (le-or-lt i p)
-
-    taken-darker : (c : ℕ) → g c < g (ord (i - 1)) → taken m ord i c ≡ false
-    taken-darker c l =
-        is-false
-        (taken m ord i c)
-        (λ e.
-        let (k, d) = taken-holds i c e in
-        omega (arith, ap g (place-holds c d), listed-rises order (i - 1) (place-of m ord c) (omega arith) d))
-
--- the word of the root r: its attribute once it is taken, before that the accumulator of what is poured into it
-abbrev pub turned : ℕ → ℕ → (ℕ → ℕ) → (ℕ → ℕ) → (ℕ → ℕ) → Positions → ℕ → ℕ
+-- the word of the root r: its attribute once it is done, before that the accumulator of what is poured into it
+abbrev turned : ℕ → ℕ → (ℕ → ℕ) → (ℕ → ℕ) → (ℕ → ℕ) → Positions → ℕ → ℕ
 turned a n v g par done r =
     cond (done r) (measured a (gathered a n v (branch g par r))) (gathered a n v (poured g par done r))
 
--- one place more, that of the root q
-module _ (a n m : ℕ) (adj : Adjacency) (symm : Symmetric adj) (g par ord : ℕ → ℕ) (forest : Forest n adj g par) (order : Listed n m g (λ (q : ℕ). eqb (node-root g par q) q) ord) (i q : ℕ) (pos : 0 < i) (top : i ≤ m) (is : q ≡ ord (i - 1)) where
-  abbrev done : Positions
-  done = taken m ord i
+-- the word of the number k when the places below i have been taken, where a pixel's accumulator is v
+abbrev pub word : ℕ → {n : ℕ} {adj : Adjacency} {g num up closed : ℕ → ℕ} {m : ℕ} → Numbered n adj g num up closed m → (ℕ → ℕ) → ℕ → ℕ → ℕ
+word a {n = n} {g = g} {num = num} {up = up} N v i k =
+    turned a n v g (parent-by (N .first) num up) (shut N i) (N .first k)
 
-  abbrev more : Positions
-  more = taken m ord (i - 1)
+module _ (a : ℕ) {n : ℕ} {adj : Adjacency} (symm : Symmetric adj) {g num up closed : ℕ → ℕ} {m : ℕ} (N : Numbered n adj g num up closed m) (v : ℕ → ℕ) where
+  abbrev par : ℕ → ℕ
+  par = parent-by (N .first) num up
 
-  q-within : q < n
-  q-within = rw is (order .within (i - 1) (omega arith))
+  forest : Forest n adj g par
+  forest = number-forest N symm
 
-  q-root : node-root g par q ≡ q
-  q-root =
-      eqb-true
-      (node-root g par q)
-      q
-      (subst (λ (k : ℕ). eqb (node-root g par k) k ≡ true) (sym is) (order .inside (i - 1) (omega arith)))
-
-  q-last : Node-root g par q
-  q-last = subst (Node-root g par) q-root (node-root-is n adj symm g par forest q q-within .2)
-
-  grown : (c : ℕ) → more c ≡ (done c || eqb q c)
-  grown c =
-      subst
-      (λ (k : ℕ). more c ≡ (done c || eqb k c))
-      (sym is)
-      (taken-more n m g (λ (q : ℕ). eqb (node-root g par q) q) ord order i pos top c)
-
-  out : done q ≡ false
-  out =
-      subst
-      (λ (k : ℕ). done k ≡ false)
-      (sym is)
-      (taken-not n m g (λ (q : ℕ). eqb (node-root g par q) q) ord order i pos top)
-
-  full : (c : ℕ) → c < n → g q < g c → Node-root g par c → done c ≡ true
-  full c b l last =
-      taken-brighter
+  word-first : (k : ℕ) → k < m → word a N v 0 k ≡ gathered a n v (λ (x : ℕ). eqb (num x) k)
+  word-first k b =
+      (rw (shut-none N (N .first k)) refl)
+      ∙ gather-ext
       n
-      m
-      g
-      (λ (q : ℕ). eqb (node-root g par q) q)
-      ord
-      order
-      i
-      pos
-      top
-      c
-      b
-      (eq-eqb (node-root g par c) c (node-root-self g par c last))
-      (subst (λ (k : ℕ). g k < g c) is l)
+      (combined a)
+      (nothing a)
+      v
+      (poured g par (shut N 0) (N .first k))
+      (λ (x : ℕ). eqb (num x) k)
+      (λ x c.
+      poured-none n adj symm g par forest (shut N 0) (N .first k) x c (λ r d. shut-none N r)
+      ∙ number-owned N k x b c)
 
-  up-out : g (par q) < g q → done (par q) ≡ false
-  up-out dark =
-      taken-darker
-      n
-      m
-      g
-      (λ (q : ℕ). eqb (node-root g par q) q)
-      ord
-      order
-      i
-      pos
-      top
-      (par q)
-      (subst (λ (k : ℕ). g (par q) < g k) is dark)
+  word-last : (i k : ℕ) → m ≤ i → k < m → word a N v i k ≡ measured a (gathered a n v (branch g par (N .first k)))
+  word-last i k all b = rw (shut-all N i k all b) refl
 
-  more-q : more q ≡ true
-  more-q = grown q ∙ or-right (done q) (eqb q q) (eq-eqb q q refl)
+  -- one place more, that of the root q
+  module _ (i : ℕ) (b : i < m) where
+    abbrev q : ℕ
+    q = N .first (closed i)
 
-  more-else : (r : ℕ) → (q ≡ r → ⊥) → more r ≡ done r
-  more-else r ne =
-      same-truth
-      (more r)
-      (done r)
-      (λ e. ⊎-elim (λ t. t) (λ t. absurd (ne (eqb-true q r t))) (or-cases (done r) (eqb q r) (sym (grown r) ∙ e)))
-      (λ e. grown r ∙ or-left (done r) (eqb q r) e)
+    abbrev done : Positions
+    done = shut N i
 
-  module _ (v : ℕ → ℕ) where
-    all-q : gathered a n v (poured g par done q) ≡ gathered a n v (branch g par q)
-    all-q =
-        gather-ext
+    abbrev more : Positions
+    more = shut N (i + 1)
+
+    here : closed i < m
+    here = N .order .within i b
+
+    at : q < n
+    at = N .first-within (closed i) here
+
+    whole : turned a n v g par done q ≡ gathered a n v (branch g par q)
+    whole =
+        (rw (shut-not N i b) refl)
+        ∙ gather-ext
         n
         (combined a)
         (nothing a)
         v
         (poured g par done q)
         (branch g par q)
-        (λ x c. poured-all n adj symm g par forest done q x q-within c q-last full)
+        (λ x c.
+        poured-all n adj symm g par forest done q x at c (root-first N (closed i) here) (shut-children N i b))
 
-    before-q : turned a n v g par done q ≡ gathered a n v (branch g par q)
-    before-q = (rw out refl) ∙ all-q
+    more-q : more q ≡ true
+    more-q = shut-more N i b q ∙ or-right (done q) (eqb q q) (eq-eqb q q refl)
 
-    after-q : turned a n v g par more q ≡ measured a (turned a n v g par done q)
-    after-q = (rw more-q refl) ∙ ap (measured a) (sym before-q)
+    more-else : (r : ℕ) → (q ≡ r → ⊥) → more r ≡ done r
+    more-else r ne =
+        same-truth
+        (more r)
+        (done r)
+        (λ e. ⊎-elim (λ t. t) (λ t. absurd (ne (eqb-true q r t))) (or-cases (done r) (eqb q r) (sym (shut-more N i b r) ∙ e)))
+        (λ e. shut-more N i b r ∙ or-left (done r) (eqb q r) e)
 
-    after-up : g (par q) < g q → turned a n v g par more (par q) ≡ combined a (turned a n v g par done (par q)) (turned a n v g par done q)
-    after-up dark =
+    word-node : word a N v (i + 1) (closed i) ≡ measured a (word a N v i (closed i))
+    word-node = (rw more-q refl) ∙ ap (measured a) (sym whole)
+
+    to-parent : g (par q) < g q → done (par q) ≡ false → turned a n v g par more (par q) ≡ combined a (turned a n v g par done (par q)) (turned a n v g par done q)
+    to-parent dark out =
         let u : ℕ = par q in
-        (rw (more-else u (λ e. omega (arith, ap g e)) ∙ up-out dark) refl)
+        (rw (more-else u (λ e. omega (arith, ap g e)) ∙ out) refl)
         ∙ gathered-union
         a
         n
@@ -236,15 +120,28 @@ module _ (a n m : ℕ) (adj : Adjacency) (symm : Symmetric adj) (g par ord : ℕ
         (poured g par done u)
         (branch g par q)
         (poured g par more u)
-        (poured-apart n adj symm g par forest done more q q-within grown dark out)
-        (poured-more n adj symm g par forest done more q q-within grown dark)
-        ∙ sym (ap (combined a (gathered a n v (poured g par done u))) before-q)
-        ∙ ap (λ (k : ℕ). combined a k (turned a n v g par done q)) (sym (rw (up-out dark) refl))
+        (poured-apart n adj symm g par forest done more q at (shut-more N i b) dark (shut-not N i b))
+        (poured-more n adj symm g par forest done more q at (shut-more N i b) dark)
+        ∙ sym (ap (combined a (gathered a n v (poured g par done u))) whole)
+        ∙ ap (λ (x : ℕ). combined a x (turned a n v g par done q)) (sym (rw out refl))
 
-    after-else : (r : ℕ) → (q ≡ r → ⊥) → (par q ≡ r → ⊥) → turned a n v g par more r ≡ turned a n v g par done r
-    after-else r ne other =
+    word-parent : (up (closed i) ≡ closed i → ⊥) → word a N v (i + 1) (up (closed i)) ≡ combined a (word a N v i (up (closed i))) (word a N v i (closed i))
+    word-parent ne =
+        let dark : g (N .first (up (closed i))) < g q = ⊎-elim (λ own. absurd (ne own)) (λ l. l) (N .dim (closed i) here) in
+        subst
+        (λ (r : ℕ).
+        g r < g q → done r ≡ false
+        → turned a n v g par more r ≡ combined a (turned a n v g par done r) (turned a n v g par done q))
+        (parent-first N (closed i) here)
+        to-parent
+        dark
+        (shut-parent N i b dark)
+
+    word-else : (k : ℕ) → k < m → (closed i ≡ k → ⊥) → (up (closed i) ≡ k → ⊥) → word a N v (i + 1) k ≡ word a N v i k
+    word-else k c ne other =
+        let r : ℕ = N .first k in
         rw
-        (more-else r ne)
+        (more-else r (λ e. ne (first-apart N (closed i) k here c e)))
         (ap
         (cond (done r) (measured a (gathered a n v (branch g par r))))
         (gather-ext
@@ -254,290 +151,284 @@ module _ (a n m : ℕ) (adj : Adjacency) (symm : Symmetric adj) (g par ord : ℕ
         v
         (poured g par more r)
         (poured g par done r)
-        (λ x c. poured-other n adj symm g par forest done more q q-within grown r x c (λ z l. other z))))
+        (λ x d.
+        poured-other
+        n
+        adj
+        symm
+        g
+        par
+        forest
+        done
+        more
+        q
+        at
+        (shut-more N i b)
+        r
+        x
+        d
+        (λ z l.
+        other
+        (first-apart N (up (closed i)) k (N .up-within (closed i) here) c (sym (parent-first N (closed i) here) ∙ z))))))
 
--- what one addition leaves of part 2: at the root of the tree, and at another root
-pub poured-last : (a q p : ℕ) (part : List ℕ) (y : ℕ) → p ≡ q → y ≡ measured a (getD part q 0) → set part q y ≡ poured-at a q p part
-poured-last a q p part y own e = rw (eq-eqb p q own) (ap (set part q) e)
+-- what one addition leaves of the words of the nodes: at the root of the tree, and at another node
+pub poured-last : (a k p : ℕ) (words : List ℕ) (y : ℕ) → p ≡ k → y ≡ measured a (held-in words k) → set words (held-at k) y ≡ poured-at a k p words
+poured-last a k p words y own e = rw (eq-eqb p k own) (ap (set words (held-at k)) e)
 
-module _ (a q p : ℕ) (part : List ℕ) (y : ℕ) (ne : p ≡ q → ⊥) where
-  -- the parent's word, once that of q is written
-  pub up-read : getD (set part q y) p 0 ≡ getD part p 0
-  up-read = getD-set-other part q p y 0 ne
+module _ (a k p : ℕ) (words : List ℕ) (y : ℕ) (ne : p ≡ k → ⊥) where
+  -- the parent's accumulator, once the word of k is written
+  pub up-read : held-in (set words (held-at k) y) p ≡ held-in words p
+  up-read = getD-set-other words (held-at k) (held-at p) y 0 (λ z. ne (omega arith))
 
-  pub poured-up : (z : ℕ) → y ≡ measured a (getD part q 0) → z ≡ combined a (getD (set part q y) p 0) (getD part q 0) → set (set part q y) p z ≡ poured-at a q p part
+  pub poured-up : (z : ℕ) → y ≡ measured a (held-in words k) → z ≡ combined a (held-in (set words (held-at k) y) p) (held-in words k) → set (set words (held-at k) y) (held-at p) z ≡ poured-at a k p words
   poured-up z e f =
       rw
-      (ne-eqb p q ne)
-      (ap (λ (k : ℕ). set (set part q k) p z) e
-      ∙ ap (set (set part q (measured a (getD part q 0))) p) (f ∙ ap (λ (k : ℕ). combined a k (getD part q 0)) up-read))
+      (ne-eqb p k ne)
+      (ap (λ (x : ℕ). set (set words (held-at k) x) (held-at p) z) e
+      ∙ ap
+      (set (set words (held-at k) (measured a (held-in words k))) (held-at p))
+      (f ∙ ap (λ (x : ℕ). combined a x (held-in words k)) up-read))
+
+-- the words of the nodes as they are lent
+module _ (n : ℕ) (ws : List ℕ) (long : length ws ≡ words-a-pixel * n) where
+  abbrev part : List ℕ
+  part = lent (3 * n) (6 * n) ws
+
+  abbrev word-at : ℕ → ℕ
+  word-at j = 3 * n + 3 * j + 2
+
+  high : 6 * n ≤ length ws
+  high = omega arith
+
+  word-at-is : (j : ℕ) → 3 * n + held-at j ≡ word-at j
+  word-at-is j = omega arith
+
+  held-within : (j : ℕ) → j < n → held-at j < length part
+  held-within j b = rw (lent-long (3 * n) (6 * n) ws high) (omega arith)
+
+  held-read : (j : ℕ) → j < n → held-in part j ≡ held-of n ws j
+  held-read j b =
+      lent-read (3 * n) (6 * n) ws high (held-at j) (omega arith) ∙ ap (λ (x : ℕ). getD ws x 0) (word-at-is j)
+
+  -- one addition, when they come back
+  module _ (a k p : ℕ) (k-in : k < n) (p-in : p < n) where
+    abbrev ws₁ : List ℕ
+    ws₁ = returned (3 * n) (6 * n) ws (poured-at a k p part)
+
+    abbrev measure : ℕ
+    measure = measured a (held-of n ws k)
+
+    abbrev sum : ℕ
+    sum = combined a (held-of n ws p) (held-of n ws k)
+
+    in-place : ws₁ ≡ cond (eqb p k) (set ws (word-at k) measure) (set (set ws (word-at k) measure) (word-at p) sum)
+    in-place =
+        rw
+        (held-read k k-in, held-read p p-in)
+        (⊎-elim
+        (λ t. rw t (rw (word-at-is k) at (stored-in (3 * n) (6 * n) ws high (held-at k) measure (omega arith))))
+        (λ f.
+        rw f
+        (rw (word-at-is k, word-at-is p) at (two-stored-in (3 * n) (6 * n) ws high (held-at k) measure (held-at p) sum (omega arith) (omega arith))))
+        (decided (eqb p k)))
+
+    at-words : length ws₁ ≡ length ws
+    at-words =
+        rw in-place
+        (⊎-elim
+        (λ t. rw t (length-set ws (word-at k) measure))
+        (λ f. rw f (length-two ws (word-at k) measure (word-at p) sum))
+        (decided (eqb p k)))
+
+    room : (j : ℕ) → j < n → word-at j < length ws
+    room j b = omega arith
+
+    apart : (p ≡ k → ⊥) → word-at k ≡ word-at p → ⊥
+    apart ne z = ne (omega arith)
+
+    at-node : held-of n ws₁ k ≡ measure
+    at-node =
+        rw in-place
+        (⊎-elim
+        (λ t. rw t (getD-set-same ws (word-at k) measure 0 (room k k-in)))
+        (λ f. rw f (read-one ws (word-at k) (word-at p) measure sum (room k k-in) (room p p-in) (apart (eqb-false p k f))))
+        (decided (eqb p k)))
+
+    at-parent : (p ≡ k → ⊥) → held-of n ws₁ p ≡ sum
+    at-parent ne =
+        rw (in-place, ne-eqb p k ne) (read-two ws (word-at k) (word-at p) measure sum (room k k-in) (room p p-in) (apart ne))
+
+    at-else : (w : ℕ) → (w ≡ word-at k → ⊥) → (w ≡ word-at p → ⊥) → getD ws₁ w 0 ≡ getD ws w 0
+    at-else w d e =
+        rw in-place
+        (⊎-elim
+        (λ t. rw t (getD-set-other ws (word-at k) w measure 0 d))
+        (λ f.
+        rw f (read-else ws (word-at k) (word-at p) measure sum (room k k-in) (room p p-in) (apart (eqb-false p k f)) w d e))
+        (decided (eqb p k)))
 
 pub record Pouring (a : ℕ) (picture ws₀ : List ℕ) (m : ℕ) (ws : List ℕ) (i : ℕ) : Type 0 where
   pub top : i ≤ m
   pub words : length ws ≡ length ws₀
-  pub kept : (k : ℕ) → k < length picture → getD ws k 0 ≡ getD ws₀ k 0
-  pub rest : (k : ℕ) → 2 * length picture ≤ k → getD ws k 0 ≡ getD ws₀ k 0
-  pub others :
-      (q : ℕ) → q < length picture → roots picture ws₀ q ≡ false
-      → node-word (length picture) ws q ≡ node-word (length picture) ws₀ q
+  pub before : (k : ℕ) → k < 3 * length picture → getD ws k 0 ≡ getD ws₀ k 0
+  pub lowests : (k : ℕ) → k < m → lowest-of (length picture) ws k ≡ lowest-of (length picture) ws₀ k
+  pub ups : (k : ℕ) → k < m → up-of (length picture) ws k ≡ up-of (length picture) ws₀ k
   pub held :
-      (v : ℕ → ℕ) → Own-held a picture ws₀ v → (r : ℕ) → r < length picture → roots picture ws₀ r ≡ true
-      → node-word (length picture) ws r
-      ≡ turned
-      a
-      (length picture)
-      v
-      (grey picture)
-      (parent-of ws₀)
-      (taken m (order-of (length picture) ws₀) i)
-      r
+      (P : Pourable a picture ws₀ m) (k : ℕ) → k < m
+      → held-of (length picture) ws k ≡ word a (P .numbered) (P .value) i k
 
-module _ {a : ℕ} {picture ws₀ : List ℕ} {m : ℕ} (start : Pourable a picture ws₀ m) where
+pub pouring-none : {a : ℕ} {picture ws₀ : List ℕ} {m : ℕ} → Pouring a picture ws₀ m ws₀ 0
+pouring-none {a} {picture} {ws₀} {m} =
+    record {
+      top = omega arith;
+      words = refl;
+      before = λ k b. refl;
+      lowests = λ k b. refl;
+      ups = λ k b. refl;
+      held = λ P k b. P .own k b ∙ sym (word-first a (P .symm) (P .numbered) (P .value) k b);
+    }
+
+pub pouring-end : {a : ℕ} {picture ws₀ ws : List ℕ} {m i : ℕ} → m ≤ i → Pouring a picture ws₀ m ws i → Poured a picture ws₀ ws m
+pouring-end {a} {i = i} all W =
+    record {
+      words = W .words;
+      before = W .before;
+      lowests = W .lowests;
+      ups = W .ups;
+      measures = λ P k b. W .held P k b ∙ word-last a (P .symm) (P .numbered) (P .value) i k all b;
+    }
+
+-- one place more, that of the number k, whose parent's number is p
+module _ {a : ℕ} {picture ws₀ : List ℕ} {m : ℕ} (start : Pourable a picture ws₀ m) {ws : List ℕ} {i : ℕ} (b : i < m) (W : Pouring a picture ws₀ m ws i) where
   abbrev n : ℕ
   n = length picture
 
   abbrev g : ℕ → ℕ
   g = grey picture
 
-  abbrev par : ℕ → ℕ
-  par = parent-of ws₀
+  abbrev k : ℕ
+  k = closed-of n ws₀ i
 
-  abbrev ord : ℕ → ℕ
-  ord = order-of (length picture) ws₀
+  abbrev p : ℕ
+  p = up-of n ws₀ k
 
-  root-last : (r : ℕ) → r < n → roots picture ws₀ r ≡ true → Node-root g par r
-  root-last r b t =
-      subst (Node-root g par) (eqb-true (node-root g par r) r t) (node-root-is n (start .adj) (start .symm) g par (start .forest) r b .2)
+  few : m ≤ n
+  few = start .numbered .few
 
-  pub pouring-none : Pouring a picture ws₀ m ws₀ m
-  pouring-none =
+  k-within : k < m
+  k-within = start .numbered .order .within i b
+
+  p-within : p < m
+  p-within = start .numbered .up-within k k-within
+
+  k-low : k < n
+  k-low = omega (arith, k-within, few)
+
+  p-low : p < n
+  p-low = omega (arith, p-within, few)
+
+  number-is : closed-of n ws i ≡ k
+  number-is = W .before (n + i) (omega (arith, few))
+
+  parent-is : up-of n ws k ≡ p
+  parent-is = W .ups k k-within
+
+  pub within : closed-of n ws i < n
+  within = rw number-is k-low
+
+  words : length ws ≡ words-a-pixel * n
+  words = W .words ∙ start .sized .words
+
+  -- the word of a node that is not taken
+  waiting : (j : ℕ) → j < m → shut (start .numbered) i (start .numbered .first j) ≡ false → held-of n ws j ≡ gathered a n (start .value) (poured g (parents-of start) (shut (start .numbered) i) (start .numbered .first j))
+  waiting j c out = W .held start j c ∙ (rw out refl)
+
+  small : (j : ℕ) → j < m → shut (start .numbered) i (start .numbered .first j) ≡ false → Small (held-of n ws j)
+  small j c out =
+      rw
+      (waiting j c out)
+      (bound-small a n _ (start .sized .small) (gathered-small a n (start .value) _ (start .small)))
+
+  small-node : Small (held-of n ws k)
+  small-node = small k k-within (shut-not (start .numbered) i b)
+
+  pub pour-asked : Pour a (closed-of n ws i) (up-of n ws (closed-of n ws i)) (lent (3 * n) (6 * n) ws)
+  pour-asked =
+      let q : ℕ = start .numbered .first k in
+      rw
+      (number-is, parent-is)
+      (record {
+        within = held-within n ws words k k-low;
+        parent = held-within n ws words p p-low;
+        small = rw (held-read n ws words k k-low) small-node;
+        small-parent =
+            rw
+            (held-read n ws words p p-low)
+            (⊎-elim
+            (λ own. rw own small-node)
+            (λ dark. small p p-within (shut-parent (start .numbered) i b dark))
+            (start .numbered .dim k k-within));
+        ends =
+            rw
+            (held-read n ws words k k-low, waiting k k-within (shut-not (start .numbered) i b))
+            (start .ends
+            (poured g (parents-of start) (shut (start .numbered) i) q)
+            q
+            (start .numbered .first-within k k-within)
+            (poured-own
+            g
+            (parents-of start)
+            (shut (start .numbered) i)
+            q
+            q
+            (node-root-self g (parents-of start) q (root-first (start .numbered) k k-within))));
+      })
+
+  abbrev ws' : List ℕ
+  ws' = returned (3 * n) (6 * n) ws (poured-at a k p (lent (3 * n) (6 * n) ws))
+
+  held-next : (P : Pourable a picture ws₀ m) (j : ℕ) → j < m → held-of n ws' j ≡ word a (P .numbered) (P .value) (i + 1) j
+  held-next P j c =
+      let N = P .numbered in
+      let v : ℕ → ℕ = P .value in
+      ⊎-elim
+      (λ z.
+      subst
+      (λ (x : ℕ). held-of n ws' x ≡ word a N v (i + 1) x)
+      z
+      (at-node n ws words a k p k-low p-low
+      ∙ ap (measured a) (W .held P k k-within)
+      ∙ sym (word-node a (P .symm) N v i b)))
+      (λ ne.
+      ⊎-elim
+      (λ z.
+      let apart : p ≡ k → ⊥ = λ e. ne (sym e ∙ z) in
+      subst
+      (λ (x : ℕ). held-of n ws' x ≡ word a N v (i + 1) x)
+      z
+      (at-parent n ws words a k p k-low p-low apart
+      ∙ ap (λ (x : ℕ). combined a x (held-of n ws k)) (W .held P p p-within)
+      ∙ ap (combined a (word a N v i p)) (W .held P k k-within)
+      ∙ sym (word-parent a (P .symm) N v i b apart)))
+      (λ other.
+      at-else n ws words a k p k-low p-low (3 * n + 3 * j + 2) (λ z. ne (omega arith)) (λ z. other (omega arith))
+      ∙ W .held P j c
+      ∙ sym (word-else a (P .symm) N v i b j c ne other))
+      (equal-or-not p j))
+      (equal-or-not k j)
+
+  step : Pouring a picture ws₀ m ws' (i + 1)
+  step =
       record {
         top = omega arith;
-        words = refl;
-        kept = λ k b. refl;
-        rest = λ k b. refl;
-        others = λ q b f. refl;
-        held =
-            λ v own r b t.
-            own r b t
-            ∙ sym
-            ((rw (taken-none n m g (roots picture ws₀) ord (start .order) r) refl)
-            ∙ gather-ext
-            n
-            (combined a)
-            (nothing a)
-            v
-            (poured g par (taken m ord m) r)
-            (owned g par r)
-            (λ x c.
-            poured-none
-            n
-            (start .adj)
-            (start .symm)
-            g
-            par
-            (start .forest)
-            (taken m ord m)
-            r
-            x
-            c
-            (λ k d. taken-none n m g (roots picture ws₀) ord (start .order) k)));
+        words = at-words n ws words a k p k-low p-low ∙ W .words;
+        before = λ w c. at-else n ws words a k p k-low p-low w (λ z. omega arith) (λ z. omega arith) ∙ W .before w c;
+        lowests =
+            λ j c. at-else n ws words a k p k-low p-low (3 * n + 3 * j) (λ z. omega arith) (λ z. omega arith) ∙ W .lowests j c;
+        ups =
+            λ j c. at-else n ws words a k p k-low p-low (3 * n + 3 * j + 1) (λ z. omega arith) (λ z. omega arith) ∙ W .ups j c;
+        held = held-next;
       }
 
-  pub pouring-end : {ws : List ℕ} {i : ℕ} → i ≤ 0 → Pouring a picture ws₀ m ws i → Poured a picture ws₀ ws
-  pouring-end {ws} {i} none P =
-      record {
-        words = P .words;
-        kept = P .kept;
-        rest = P .rest;
-        others = P .others;
-        measures =
-            λ v own r b t.
-            P .held v own r b t ∙ (rw (taken-all n m g (roots picture ws₀) ord (start .order) i r none b t) refl);
-      }
-
-  -- one place more, that of the pixel q
-  module _ {ws : List ℕ} {i q : ℕ} (pos : 0 < i) (P : Pouring a picture ws₀ m ws i) (is : q ≡ ord (i - 1)) where
-    pub within : q < n
-    within = rw is (start .order .within (i - 1) (omega (arith, P .top)))
-
-    up-within : par q < n
-    up-within = start .forest .within q within
-
-    root : roots picture ws₀ q ≡ true
-    root =
-        subst
-        (λ (k : ℕ). roots picture ws₀ k ≡ true)
-        (sym is)
-        (start .order .inside (i - 1) (omega (arith, P .top)))
-
-    up-root : roots picture ws₀ (par q) ≡ true
-    up-root = eq-eqb (node-root g par (par q)) (par q) (node-root-self g par (par q) (start .forest .root q within))
-
-    same-parent : parent-of ws q ≡ par q
-    same-parent = P .kept q within
-
-    words : length ws ≡ words-a-pixel * n
-    words = P .words ∙ start .sized .words
-
-    not-taken : taken m ord i q ≡ false
-    not-taken = out a n m (start .adj) (start .symm) g par ord (start .forest) (start .order) i q pos (P .top) is
-
-    up-not-taken : g (par q) < g q → taken m ord i (par q) ≡ false
-    up-not-taken = up-out a n m (start .adj) (start .symm) g par ord (start .forest) (start .order) i q pos (P .top) is
-
-    -- the word of a root that is not taken
-    waiting : (r : ℕ) → r < n → roots picture ws₀ r ≡ true → taken m ord i r ≡ false → node-word n ws r ≡ gathered a n (start .value) (poured g par (taken m ord i) r)
-    waiting r b t f = P .held (start .value) (start .own) r b t ∙ (rw f refl)
-
-    small : (r : ℕ) → r < n → roots picture ws₀ r ≡ true → taken m ord i r ≡ false → Small (node-word n ws r)
-    small r b t f =
-        rw
-        (waiting r b t f)
-        (bound-small
-        a
-        n
-        (gathered a n (start .value) (poured g par (taken m ord i) r))
-        (start .sized .small)
-        (gathered-small a n (start .value) (poured g par (taken m ord i) r) (start .small)))
-
-    small-up : Small (node-word n ws (par q))
-    small-up =
-        ⊎-elim
-        (λ own. rw own (small q within root not-taken))
-        (λ dark. small (par q) up-within up-root (up-not-taken dark))
-        (root-last q within root)
-
-    high : 2 * n ≤ length ws
-    high = omega (arith, words)
-
-    held-long : length (lent n (2 * n) ws) ≡ n
-    held-long = rw (lent-long n (2 * n) ws high) (omega arith)
-
-    held-read : (r : ℕ) → r < n → getD (lent n (2 * n) ws) r 0 ≡ node-word n ws r
-    held-read r b = lent-read n (2 * n) ws high r (omega arith)
-
-    pub pour-asked : Pour a q (parent-of ws q) (lent n (2 * n) ws)
-    pour-asked =
-        rw same-parent
-        (record {
-          within = rw held-long within;
-          parent = rw held-long up-within;
-          small = rw (held-read q within) (small q within root not-taken);
-          small-parent = rw (held-read (par q) up-within) small-up;
-          ends =
-              rw
-              (held-read q within, waiting q within root not-taken)
-              (start .ends
-              (poured g par (taken m ord i) q)
-              q
-              within
-              (poured-own g par (taken m ord i) q q (eqb-true (node-root g par q) q root)));
-        })
-
-    abbrev measure : ℕ
-    measure = measured a (node-word n ws q)
-
-    abbrev sum : ℕ
-    sum = combined a (node-word n ws (par q)) (node-word n ws q)
-
-    held-q : (v : ℕ → ℕ) → Own-held a picture ws₀ v → measure ≡ turned a n v g par (taken m ord (i - 1)) q
-    held-q v own =
-        ap (measured a) (P .held v own q within root)
-        ∙ sym (after-q a n m (start .adj) (start .symm) g par ord (start .forest) (start .order) i q pos (P .top) is v)
-
-    held-up : (v : ℕ → ℕ) → Own-held a picture ws₀ v → g (par q) < g q → sum ≡ turned a n v g par (taken m ord (i - 1)) (par q)
-    held-up v own dark =
-        ap (λ (k : ℕ). combined a k (node-word n ws q)) (P .held v own (par q) up-within up-root)
-        ∙ ap (combined a (turned a n v g par (taken m ord i) (par q))) (P .held v own q within root)
-        ∙ sym (after-up a n m (start .adj) (start .symm) g par ord (start .forest) (start .order) i q pos (P .top) is v dark)
-
-    held-else : (v : ℕ → ℕ) → Own-held a picture ws₀ v → (r : ℕ) → r < n → roots picture ws₀ r ≡ true → (q ≡ r → ⊥) → (par q ≡ r → ⊥) → node-word n ws r ≡ turned a n v g par (taken m ord (i - 1)) r
-    held-else v own r b t ne other =
-        P .held v own r b t
-        ∙ sym (after-else a n m (start .adj) (start .symm) g par ord (start .forest) (start .order) i q pos (P .top) is v r ne other)
-
-    -- a pixel that is no root is not the one whose word changes
-    no-root : (r k : ℕ) → roots picture ws₀ r ≡ false → roots picture ws₀ k ≡ true → n + r ≡ n + k → ⊥
-    no-root r k f t e =
-        let z : r ≡ k = omega arith in
-        clash (roots picture ws₀ r) (subst (λ (x : ℕ). roots picture ws₀ x ≡ true) (sym z) t) f
-
-    step-last : par q ≡ q → Pouring a picture ws₀ m (set ws (n + q) measure) (i - 1)
-    step-last last =
-        let room : n + q < length ws = omega (arith, within, words) in
-        record {
-          top = omega (arith, P .top);
-          words = length-set ws (n + q) measure ∙ P .words;
-          kept = λ k b. getD-set-other ws (n + q) k measure 0 (λ z. omega arith) ∙ P .kept k b;
-          rest = λ k b. getD-set-other ws (n + q) k measure 0 (λ z. omega (arith, within)) ∙ P .rest k b;
-          others = λ r b f. getD-set-other ws (n + q) (n + r) measure 0 (no-root r q f root) ∙ P .others r b f;
-          held =
-              λ v own r b t.
-              ⊎-elim
-              (λ z.
-              subst
-              (λ (k : ℕ). node-word n (set ws (n + q) measure) k ≡ turned a n v g par (taken m ord (i - 1)) k)
-              z
-              (getD-set-same ws (n + q) measure 0 room ∙ held-q v own))
-              (λ ne.
-              getD-set-other ws (n + q) (n + r) measure 0 (λ z. ne (omega arith))
-              ∙ held-else v own r b t ne (λ z. ne (sym last ∙ z)))
-              (equal-or-not q r);
-        }
-
-    step-up : (par q ≡ q → ⊥) → g (par q) < g q → Pouring a picture ws₀ m (set (set ws (n + q) measure) (n + par q) sum) (i - 1)
-    step-up apart dark =
-        let room : n + q < length ws = omega (arith, within, words) in
-        let room-up : n + par q < length ws = omega (arith, up-within, words) in
-        let two : n + q ≡ n + par q → ⊥ = λ z. apart (omega arith) in
-        let else : (k : ℕ) → (k ≡ n + q → ⊥) → (k ≡ n + par q → ⊥) → getD (set (set ws (n + q) measure) (n + par q) sum) k 0 ≡ getD ws k 0 =
-        read-else ws (n + q) (n + par q) measure sum room room-up two in
-        record {
-          top = omega (arith, P .top);
-          words = length-two ws (n + q) measure (n + par q) sum ∙ P .words;
-          kept = λ k b. else k (λ z. omega arith) (λ z. omega arith) ∙ P .kept k b;
-          rest = λ k b. else k (λ z. omega (arith, within)) (λ z. omega (arith, up-within)) ∙ P .rest k b;
-          others = λ r b f. else (n + r) (no-root r q f root) (no-root r (par q) f up-root) ∙ P .others r b f;
-          held =
-              λ v own r b t.
-              ⊎-elim
-              (λ z.
-              subst
-              (λ (k : ℕ). node-word n (set (set ws (n + q) measure) (n + par q) sum) k ≡ turned a n v g par (taken m ord (i - 1)) k)
-              z
-              (read-one ws (n + q) (n + par q) measure sum room room-up two ∙ held-q v own))
-              (λ ne.
-              ⊎-elim
-              (λ z.
-              subst
-              (λ (k : ℕ). node-word n (set (set ws (n + q) measure) (n + par q) sum) k ≡ turned a n v g par (taken m ord (i - 1)) k)
-              z
-              (read-two ws (n + q) (n + par q) measure sum room room-up two ∙ held-up v own dark))
-              (λ other.
-              else (n + r) (λ z. ne (omega arith)) (λ z. other (omega arith)) ∙ held-else v own r b t ne other)
-              (equal-or-not (par q) r))
-              (equal-or-not q r);
-        }
-
-    pub pouring-more : {part : List ℕ} → part ≡ poured-at a q (parent-of ws q) (lent n (2 * n) ws) → Pouring a picture ws₀ m (returned n (2 * n) ws part) (i - 1)
-    pouring-more e =
-        let here : n + q < 2 * n = omega (arith, within) in
-        let there : n + par q < 2 * n = omega (arith, up-within) in
-        rw
-        (e, same-parent, held-read q within, held-read (par q) up-within)
-        (⊎-elim
-        (λ t.
-        rw t
-        (subst
-        (λ (l : List ℕ). Pouring a picture ws₀ m l (i - 1))
-        (sym (stored-in n (2 * n) ws high q measure here))
-        (step-last (eqb-true (par q) q t))))
-        (λ t.
-        let apart : par q ≡ q → ⊥ = eqb-false (par q) q t in
-        rw t
-        (subst
-        (λ (l : List ℕ). Pouring a picture ws₀ m l (i - 1))
-        (sym (two-stored-in n (2 * n) ws high q measure (par q) sum here there))
-        (step-up apart (⊎-elim (λ own. absurd (apart own)) (λ dark. dark) (root-last q within root)))))
-        (decided (eqb (par q) q)))
+  pub pouring-more : {part : List ℕ} → part ≡ poured-at a (closed-of n ws i) (up-of n ws (closed-of n ws i)) (lent (3 * n) (6 * n) ws) → Pouring a picture ws₀ m (returned (3 * n) (6 * n) ws part) (i + 1)
+  pouring-more e = rw (e, number-is, parent-is) step

@@ -2,32 +2,32 @@
 ghost use mathlib.Core.Path.{_≡_};
 ghost use Rattle.descendants.specs.Pouring.{Pour, poured-at, Pourable, Poured};
 
-// Adds the accumulator of the node of q, whose children are added to it, to that of its parent p, and puts the node's attribute in its
-// place, both in part 2. The root of the tree is its own parent.
-fn pour(attribute: u32, q: usize, p: usize, part: &mut [u32])
-    requires { ⌜ Pour attribute q p (now part) ⌝ }
-    ensures { λ _. ⌜ now (part .exit) ≡ poured-at attribute q p (now (part .entry)) ⌝ }
+// Adds the accumulator of the node k, to which its children are added, to that of its parent p, and puts the node's attribute in its
+// place, both among the words of the nodes. The root of the tree is its own parent.
+fn pour(attribute: u32, k: usize, p: usize, words: &mut [u32])
+    requires { ⌜ Pour attribute k p (now words) ⌝ }
+    ensures { λ _. ⌜ now (words .exit) ≡ poured-at attribute k p (now (words .entry)) ⌝ }
 {
-    let held = part[q];
-    part[q] = accumulators::measure(attribute, held);
-    if p == q {
+    let held = words[3 * k + 2];
+    words[3 * k + 2] = accumulators::measure(attribute, held);
+    if p == k {
         return;
     }
-    let sum = accumulators::combine(attribute, part[p], held);
-    part[p] = sum;
+    let sum = accumulators::combine(attribute, words[3 * p + 2], held);
+    words[3 * p + 2] = sum;
 }
 
-// The attribute of each node: every node is added to its parent, the brightest first.
+// The attribute of each node: every node is added to its parent, in the order of closing. The words of the nodes, parts 4 to 6, are lent on.
 pub fn descendants(picture: &[u8], attribute: u32, nodes: usize, ws: &mut [u32])
     requires { ⌜ Pourable attribute (now picture) (now ws) nodes ⌝ }
-    ensures { λ _. ⌜ Poured attribute (now (picture .entry)) (now (ws .entry)) (now (ws .exit)) ⌝ }
+    ensures { λ _. ⌜ Poured attribute (now (picture .entry)) (now (ws .entry)) (now (ws .exit)) nodes ⌝ }
 {
     let n = picture.len();
-    let mut i = nodes;
-    while i > 0 {
-        i -= 1;
-        let q = ws[2 * n + i] as usize;
-        let p = ws[q] as usize;
-        pour(attribute, q, p, &mut ws[n..2 * n]);
+    let mut i = 0;
+    while i < nodes {
+        let k = ws[n + i] as usize;
+        let p = ws[3 * n + 3 * k + 1] as usize;
+        pour(attribute, k, p, &mut ws[3 * n..6 * n]);
+        i += 1;
     }
 }

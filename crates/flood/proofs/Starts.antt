@@ -1,4 +1,4 @@
--- The flood's start on the lists: the levels counted, the parents filled, and the first pixel in its queue.
+-- The flood's start on the lists: the levels counted, the numbers filled, and the first pixel in its queue.
 use Prim.Native.Nat.{ℕ, suc, _+_, _-_, _/_, _%_, _^_, _≤_, _<_}
 use mathlib.Core.List.{List, _++_}
 use mathlib.Core.Path.{_≡_, refl, _∙_}
@@ -16,11 +16,14 @@ use Rattle.levels.specs.Levels.{grey, darker, level-counts, entry-sum, starts-o
 use Rattle.levels.specs.Workspace.{Sized}
 use Rattle.levels.proofs.Counts.{by-cases, equal-or-not}
 use Rattle.levels.proofs.Tables.{sum-darker}
+use Rattle.flooding.specs.Numbers.{Named}
 use Rattle.flooding.proofs.Beginning.{Untouched, begins, first-sound, first-at}
 use Rattle.flooding.proofs.Meeting.{tail-lt}
+use Rattle.flooding.proofs.Numbers.{named-none, taken-fits, Renamed, named-pushed}
 use Rattle.queues.specs.Marks.{Marked}
-use Rattle.queues.specs.Queues.{lists, state-of, Fitting, Placing}
-use Rattle.visits.specs.Visits.{Ready}
+use Rattle.queues.specs.Queues.{lists, numbers-of, state-of, Fitting, Placing}
+use Rattle.visits.specs.Visits.{StandsAt}
+use Rattle.visits.proofs.Visits.{pushes}
 use Rattle.flood.specs.Calls.{Floodable}
 
 -- there is a first pixel
@@ -56,29 +59,29 @@ module _ {n : ℕ} {ws : List ℕ} (part : List ℕ) (size : Sized n ws) (all : 
       (all, part-length)
       (List·getD-append (replicate n n) _ 0 q (rw (length-replicate n n) h) ∙ getD-replicate n q n 0 h)
 
--- the table with no level open: n for each root, and an empty set
+-- the table with no level open: n for each number, an empty set, no number taken and no node closed
 abbrev pub none-open : ℕ → List ℕ
-none-open n = set (set (set (set (replicate 260 n) 256 0) 257 0) 258 0) 259 0
+none-open n = set (set (set (set (set (set (replicate 262 n) 256 0) 257 0) 258 0) 259 0) 260 0) 261 0
 
--- the roots are n, and the first i words of the set are 0
+-- no level has a number, and the first i words after the numbers are 0
 record Emptied (n i : ℕ) (xs : List ℕ) : Type 0 where
-  wide : length xs ≡ 260
-  root : (k : ℕ) → k < 256 → getD xs k 0 ≡ n
+  wide : length xs ≡ 262
+  number : (k : ℕ) → k < 256 → getD xs k 0 ≡ n
   word : (j : ℕ) → j < i → getD xs (256 + j) 0 ≡ 0
 
-all-roots : (n : ℕ) → Emptied n 0 (replicate 260 n)
-all-roots n =
+all-closed : (n : ℕ) → Emptied n 0 (replicate 262 n)
+all-closed n =
     record {
-      wide = length-replicate 260 n;
-      root = λ k h. getD-replicate 260 k n 0 (omega arith);
+      wide = length-replicate 262 n;
+      number = λ k h. getD-replicate 262 k n 0 (omega arith);
       word = λ j h. absurd (omega arith);
     }
 
-one-more : {n : ℕ} {xs : List ℕ} (i : ℕ) → i < 4 → Emptied n i xs → Emptied n (suc i) (set xs (256 + i) 0)
+one-more : {n : ℕ} {xs : List ℕ} (i : ℕ) → i < 6 → Emptied n i xs → Emptied n (suc i) (set xs (256 + i) 0)
 one-more {n} {xs} i h E =
     record {
       wide = length-set xs (256 + i) 0 ∙ E .wide;
-      root = λ k hk. getD-set-other xs (256 + i) k 0 0 (λ e. omega arith) ∙ E .root k hk;
+      number = λ k hk. getD-set-other xs (256 + i) k 0 0 (λ e. omega arith) ∙ E .number k hk;
       word = λ j hj.
           by-cases
           (equal-or-not j i)
@@ -86,15 +89,15 @@ one-more {n} {xs} i h E =
           (λ ne. getD-set-other xs (256 + i) (256 + j) 0 0 (λ e. ne (omega arith)) ∙ E .word j (omega arith));
     }
 
-emptied : (n : ℕ) → Emptied n 4 (none-open n)
+emptied : (n : ℕ) → Emptied n 6 (none-open n)
 emptied n =
-    one-more 3 (omega arith)
-    (one-more 2 (omega arith) (one-more 1 (omega arith) (one-more 0 (omega arith) (all-roots n))))
+    let set-words = one-more 3 (omega arith) (one-more 2 (omega arith) (one-more 1 (omega arith) (one-more 0 (omega arith) (all-closed n)))) in
+    one-more 5 (omega arith) (one-more 4 (omega arith) set-words)
 
 none-marked : (n : ℕ) → Marked n (none-open n)
 none-marked n =
     record {
-      open-set = λ k h o. absurd (o (emptied n .root k h));
+      open-set = λ k h o. absurd (o (emptied n .number k h));
       closed-clear = λ k h e. rw (emptied n .word (k / 64) (omega arith), zero-div (2 ^ (k % 64))) refl;
     }
 
@@ -108,47 +111,74 @@ module _ {grid : Grid} {picture ws ws₁ counts starts : List ℕ} (F : Floodabl
     at-start : (k : ℕ) → k < 256 → getD starts k 0 ≡ darker (length picture) (grey picture) k
     at-start k h = table-read _ T k h ∙ sum-darker picture counts (length picture) C k (omega arith)
 
+    -- no pixel has a parent and no level a root
+    abbrev none : ℕ → ℕ
+    none x = length picture
+
     untouched :
         Untouched
         (length picture)
         (grey picture)
-        (state-of (length picture) (lists ws₁ starts starts (none-open (length picture))))
+        (state-of (length picture) none none (lists ws₁ starts starts (none-open (length picture))))
     untouched =
-        record {
-          unmet-all = unmet-all;
-          closed-all = emptied (length picture) .root;
-          heads = at-start;
-          tails = at-start;
-        }
+        record { unmet-all = λ q h. refl; closed-all = λ k h. refl; heads = at-start; tails = at-start }
+
+    unnamed :
+        Named (length picture) (grey picture) none none none
+        (numbers-of (length picture) ws₁ (none-open (length picture)))
+    unnamed =
+        let E = emptied (length picture) in
+        named-none (grey picture) none unmet-all (E .number) (E .word 4 (omega arith)) (E .word 5 (omega arith))
+        (λ q h. refl)
+        (λ l h. refl)
 
     pub first-fits : Fitting (length picture) 0 (grey picture 0) ws₁ starts (none-open (length picture))
     first-fits =
         record {
           sized = size;
           within = some;
-          level = bytes 0;
-          free =
-              tail-lt (begins untouched {adj = adjacent grid}) (bytes 0) some (unmet-all 0 some);
-          root = omega (arith, untouched .closed-all (grey picture 0) (bytes 0));
+          free = tail-lt (begins untouched {adj = adjacent grid}) (bytes 0) some refl;
           wide-tails = table-long _ T;
-          wide-roots = emptied (length picture) .wide;
-          marks = none-marked (length picture);
+          nameable =
+              record {
+                small = size .small;
+                level = bytes 0;
+                held = unnamed .opens (grey picture 0) (bytes 0);
+                left = λ e. taken-fits unnamed some (unmet-all 0 some);
+                wide = emptied (length picture) .wide;
+                marks = none-marked (length picture);
+              };
         }
 
-    pub first-ready :
-        {ws₂ tails roots : List ℕ}
-        → Placing (length picture) 0 (grey picture 0) ws₁ starts (none-open (length picture)) ws₂ tails roots
-        → length ws₂ ≡ length ws₁ → Ready grid picture (lists ws₂ starts tails roots) (grey picture 0)
-    first-ready P same-length =
-        record {
-          bytes = bytes;
-          whole = F .whole;
-          wide = F .wide;
-          sized = record { words = same-length ∙ size .words; small = size .small };
-          wide-heads = table-long _ T;
-          wide-tails = P .wide-tails;
-          wide-roots = P .wide-roots;
-          marks = P .marks;
-          sound = first-sound untouched (λ x h. bytes x) some (P .step starts);
-          at = first-at untouched (λ x h. bytes x) some (P .step starts);
-        }
+    module _ {ws₂ tails opened : List ℕ}
+        (P : Placing (length picture) 0 (grey picture 0) ws₁ starts (none-open (length picture)) ws₂ tails opened)
+      where
+        first-named :
+            Renamed (length picture) (grey picture 0) 0 (grey picture) none none (numbers-of (length picture) ws₂ opened)
+        first-named =
+            named-pushed unnamed (P .numbering) some (bytes 0) refl (unmet-all 0 some) (λ j h o. absurd (omega arith))
+
+        pub first-stands : length ws₂ ≡ length ws₁ → StandsAt grid picture (lists ws₂ starts tails opened) 0
+        first-stands same-length =
+            let N = first-named in
+            let step = pushes starts P N in
+            record {
+              ready =
+                  record {
+                    bytes = bytes;
+                    whole = F .whole;
+                    wide = F .wide;
+                    sized = record { words = same-length ∙ size .words; small = size .small };
+                    wide-heads = table-long _ T;
+                    wide-tails = P .wide-tails;
+                    wide-opened = P .wide-opened;
+                    marks = P .marks;
+                    first = N .first';
+                    par = N .par';
+                    root = N .root';
+                    named = N .named;
+                    sound = first-sound untouched (λ x h. bytes x) some step;
+                    at = first-at untouched (λ x h. bytes x) some step;
+                  };
+              here = P .ord .here;
+            }

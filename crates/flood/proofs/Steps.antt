@@ -1,164 +1,224 @@
 -- A step of the flood on the lists: a brighter neighbour moves it up, else the head moves on, and an empty level is closed.
 use Prim.Native.Nat.{ℕ, suc, _+_, _*_, _-_, _≤_, _<_}
+use mathlib.Core.Bool.{true}
 use mathlib.Core.List.{List}
-use mathlib.Core.Logic.{inl, inr}
+use mathlib.Core.Logic.{_⊎_, inl, inr}
 use mathlib.Core.Path.{_≡_, refl, _∙_}
 use native.Mathlib.Numerals.{add-one}
 use native.Mathlib.Omega.{arith}
 use lib.ListN.{getD, length, set, length-set}
-use Rattle.sets.specs.Sets.{Positions}
 use Rattle.grid.specs.Neighbours.{adjacent}
 use Rattle.grid.specs.declared.Grid.{Grid}
 use Rattle.grid.proofs.Attributes.{adjacent-symmetric}
 use Rattle.grid.proofs.Sides.{adjacent-before}
 use Rattle.levels.specs.Levels.{grey}
 use Rattle.levels.specs.Tables.{Changed}
-use Rattle.levels.proofs.Counts.{by-cases}
+use Rattle.levels.proofs.Counts.{by-cases, below-or-not}
 use Rattle.levels.proofs.Tables.{stored, sum-raised, sum-le}
-use Rattle.flooding.specs.Flooding.{Sound}
+use Rattle.flooding.specs.Flooding.{Sound, Closed}
+use Rattle.flooding.specs.Numbers.{changed}
 use Rattle.flooding.proofs.Closing.{closed-sound, closed-at}
 use Rattle.flooding.proofs.Ending.{ends}
 use Rattle.flooding.proofs.Finishing.{Empty, finished-sound, finished-at, finished-empty}
 use Rattle.flooding.proofs.Meeting.{tail-le}
-use Rattle.queues.specs.Queues.{Lists, lists, state-of, NoneOpen, Closable, ClosedBelow, ClosedTo}
-use Rattle.visits.specs.Visits.{Ready, Visited, AllVisited}
-use Rattle.flood.specs.Calls.{spent, FloodedBy, Outcome, Stepped}
+use Rattle.flooding.proofs.Numbers.{changed-once, close-fits, open-number, open-root, named-closed, named-ended}
+use Rattle.queues.specs.Queues.{Lists, lists, taken-of, state-of, NoneOpen, NextOpen, Closable, Shut, ClosedTo}
+use Rattle.visits.specs.Visits.{Ready, Standing, VisitedAround}
+use Rattle.visits.proofs.Visits.{standing-grey, root-greys}
+use Rattle.flood.specs.Calls.{spent, NumberedBy, Leavable, Ended, Left}
 
 -- the heads with that of level l moved on
 abbrev pub advanced : List ℕ → ℕ → List ℕ
 advanced heads l = set heads l (getD heads l 0 + 1)
 
 abbrev pub moved-on : Lists → ℕ → Lists
-moved-on s l = lists (s .words) (advanced (s .heads) l) (s .tails) (s .roots)
+moved-on s l = lists (s .words) (advanced (s .heads) l) (s .tails) (s .opened)
 
-module _ {grid : Grid} {picture : List ℕ} {s s' : Lists} {l : ℕ} where
-  -- the flood moves up
-  pub moves : {r : ℕ} {side : Positions} → Visited grid picture s s' l r side → (r ≡ l → ⊥) → Stepped grid picture s s' r
-  moves U ne = record { outcome = inl (U .ready); more = rw (U .same-heads) (omega (arith, U .raised ne)) }
+-- the pixel p at the head of level l is left
+module _ {grid : Grid} {picture : List ℕ} {s : Lists} {l p : ℕ} where
+  module _ (M : Leavable grid picture s l p) where
+    R : Ready grid picture s l
+    R = M .stands .ready
 
-  -- the flood stays, and every neighbour is met
-  module _ (U : AllVisited grid picture s s' l l) where
-    R : Ready grid picture s' l
-    R = U .ready
-
-    advance : Changed 256 (λ k. getD (s' .heads) k 0) (λ k. getD (advanced (s' .heads) l) k 0) l (suc (getD (s' .heads) l 0))
+    advance : Changed 256 (λ k. getD (s .heads) k 0) (λ k. getD (advanced (s .heads) l) k 0) l (suc (getD (s .heads) l 0))
     advance =
         rw
-        (← add-one (getD (s' .heads) l 0))
-        (stored 256 (s' .heads) l (getD (s' .heads) l 0 + 1) (omega (arith, R .at .level, R .wide-heads)))
+        (← add-one (getD (s .heads) l 0))
+        (stored 256 (s .heads) l (getD (s .heads) l 0 + 1) (omega (arith, R .at .level, R .wide-heads)))
 
-    spent-more : spent s < spent (moved-on s' l)
+    spent-more : spent s < spent (moved-on s l)
     spent-more =
-        rw
-        (← U .same-heads)
-        (omega (
+        omega (
           arith,
-          U .more,
           sum-raised
               256
-              (λ (k : ℕ). getD (s' .heads) k 0)
-              (λ (k : ℕ). getD (advanced (s' .heads) l) k 0)
+              (λ (k : ℕ). getD (s .heads) k 0)
+              (λ (k : ℕ). getD (advanced (s .heads) l) k 0)
               l
               (R .at .level)
               (advance .here)
               (advance .there),
-        ))
+        )
 
     bytes : (x : ℕ) → x < length picture → grey picture x < 256
     bytes x h = R .bytes x
 
-    sound' : Sound (length picture) (adjacent grid) (grey picture) (state-of (length picture) (moved-on s' l))
-    sound' = finished-sound (R .sound) bytes (adjacent-symmetric grid) (R .at) (U .same-head) (U .met refl) advance
+    neighbours-met :
+        (q : ℕ) → q < length picture → adjacent grid p q ≡ true → R .par q < length picture
+    neighbours-met q h a = R .named .met q h (M .met q h a) .parent
+
+    sound' : Sound (length picture) (adjacent grid) (grey picture) (state-of (length picture) (R .par) (R .root) (moved-on s l))
+    sound' = finished-sound (R .sound) bytes (adjacent-symmetric grid) (R .at) (M .stands .here) neighbours-met advance
 
     -- the level has more pixels waiting
-    pub goes-on :
-        (getD (advanced (s' .heads) l) l 0 ≡ getD (s' .tails) l 0 → ⊥) → Stepped grid picture s (moved-on s' l) l
-    goes-on ne =
-        record {
-          outcome =
-              inl
-              (record {
-                bytes = R .bytes;
-                whole = R .whole;
-                wide = R .wide;
-                sized = R .sized;
-                wide-heads = length-set (s' .heads) l _ ∙ R .wide-heads;
-                wide-tails = R .wide-tails;
-                wide-roots = R .wide-roots;
-                marks = R .marks;
-                sound = sound';
-                at = finished-at (R .sound) bytes (adjacent-symmetric grid) (R .at) (U .same-head) (U .met refl) advance ne;
-              });
-          more = spent-more;
-        }
+    module _ (more-left : getD (advanced (s .heads) l) l 0 ≡ getD (s .tails) l 0 → ⊥) where
+      stays-ready : Ready grid picture (moved-on s l) l
+      stays-ready =
+          record {
+            bytes = R .bytes;
+            whole = R .whole;
+            wide = R .wide;
+            sized = R .sized;
+            wide-heads = length-set (s .heads) l _ ∙ R .wide-heads;
+            wide-tails = R .wide-tails;
+            wide-opened = R .wide-opened;
+            marks = R .marks;
+            first = R .first;
+            par = R .par;
+            root = R .root;
+            named = R .named;
+            sound = sound';
+            at = finished-at (R .sound) bytes (adjacent-symmetric grid) (R .at) (M .stands .here) neighbours-met advance more-left;
+          }
 
-    pub closable : Closable (length picture) (s' .words) (s' .roots) l
+      pub goes-on : Left grid picture s (moved-on s l) l
+      goes-on = record { outcome = inl stays-ready; more = spent-more }
+
+    open-here : getD (s .opened) l 0 < length picture
+    open-here = open-number (R .named) l (R .at .level) (R .at .open-here)
+
+    pub closable : Closable (length picture) (s .words) (s .opened) l
     closable =
         record {
           sized = R .sized;
-          wide-roots = R .wide-roots;
+          wide = R .wide-opened;
           marks = R .marks;
           level = R .at .level;
-          open-here = R .at .open-here;
-          within = R .sound .roots;
+          open-here = open-here;
+          within = R .named .opens;
+          left = close-fits (R .named) (R .at .level) open-here;
         }
 
     -- the level is empty: its node is closed, and the flood goes on below or ends
-    module _ (none-left : getD (advanced (s' .heads) l) l 0 ≡ getD (s' .tails) l 0) where
-      emptied : Empty (length picture) (state-of (length picture) (moved-on s' l)) l
+    module _ (none-left : getD (advanced (s .heads) l) l 0 ≡ getD (s .tails) l 0) where
+      emptied : Empty (length picture) (state-of (length picture) (R .par) (R .root) (moved-on s l)) l
       emptied =
-          finished-empty (R .sound) bytes (adjacent-symmetric grid) (R .at) (U .same-head) (U .met refl) advance none-left
+          finished-empty (R .sound) bytes (adjacent-symmetric grid) (R .at) (M .stands .here) neighbours-met advance none-left
 
       goes-below :
-          {ws″ roots″ : List ℕ} {m : ℕ} → length ws″ ≡ length (s' .words)
-          → ClosedBelow (length picture) (s' .words) (s' .roots) ws″ roots″ l m
-          → Ready grid picture (lists ws″ (advanced (s' .heads) l) (s' .tails) roots″) m
-      goes-below {m = m} same-length B =
-          let N = B .next-open in
-          let open-m : getD (s' .roots) m 0 < length picture =
-          omega (arith, N .open-here, R .sound .roots m (omega (arith, N .lower, R .at .level)))
+          {ws″ opened″ : List ℕ} {m : ℕ} → length ws″ ≡ length (s .words) → NextOpen (length picture) (s .opened) l m
+          → Shut (length picture) (s .words) (s .opened) ws″ opened″ l (getD (s .opened) m 0)
+          → Ready grid picture (lists ws″ (advanced (s .heads) l) (s .tails) opened″) m
+      goes-below {ws″} {opened″} {m} same-length N S =
+          let n = length picture in
+          let in-m : m < 256 = omega (arith, N .lower, R .at .level) in
+          let open-m : getD (s .opened) m 0 < length picture = omega (arith, N .open-here, R .named .opens m in-m) in
+          let root-m = open-root (R .named) m in-m open-m in
+          let next : (k : ℕ) → m < k → k < l → length picture ≤ R .root k =
+          λ k a b. omega (arith, R .named .no-node k (omega (arith, R .at .level)) (N .next k a b))
           in
-          let next : (k : ℕ) → m < k → k < l → length picture ≤ getD (s' .roots) k 0 =
-          λ k a b. omega (arith, N .next k a b)
+          let step :
+          Closed (length picture) l m (state-of (length picture) (R .par) (R .root) (moved-on s l))
+          (state-of (length picture) (changed (R .par) (R .root l) (R .root m)) (changed (R .root) l (length picture))
+          (lists ws″ (advanced (s .heads) l) (s .tails) opened″)) =
+          record {
+            par = changed-once n (R .par) (R .root l) (R .root m);
+            root = changed-once 256 (R .root) l n;
+            ord = S .ord;
+            head = λ k. refl;
+            tail = λ k. refl;
+          }
           in
-          let step = B .step (advanced (s' .heads) l) (s' .tails) in
           record {
             bytes = R .bytes;
             whole = R .whole;
             wide = R .wide;
             sized = record { words = same-length ∙ R .sized .words; small = R .sized .small };
-            wide-heads = length-set (s' .heads) l _ ∙ R .wide-heads;
+            wide-heads = length-set (s .heads) l _ ∙ R .wide-heads;
             wide-tails = R .wide-tails;
-            wide-roots = B .wide-roots;
-            marks = B .marks;
-            sound = closed-sound sound' bytes emptied (N .lower) open-m next step;
-            at = closed-at sound' bytes emptied (N .lower) open-m next step;
+            wide-opened = S .wide;
+            marks = S .marks;
+            first = R .first;
+            par = changed (R .par) (R .root l) (R .root m);
+            root = changed (R .root) l n;
+            named =
+                named-closed (R .named) (S .shutting) (R .at .level) refl open-here (root-greys R) (N .lower) refl open-m;
+            sound = closed-sound sound' bytes emptied (N .lower) root-m next step;
+            at = closed-at sound' bytes emptied (N .lower) root-m next step;
           }
 
-      ends-here : NoneOpen (length picture) (s' .roots) l → FloodedBy grid picture (s' .words)
-      ends-here none-open =
-          ends
-          sound'
-          bytes
-          emptied
-          (λ k h. omega (arith, none-open k h))
-          (λ q a b. adjacent-before grid (R .wide) q a)
+      -- no level below is open: the last node is closed
+      module _ (none-open : NoneOpen (length picture) (s .opened) l) where
+        none-below : (k : ℕ) → k < l → length picture ≤ R .root k
+        none-below k h = omega (arith, R .named .no-node k (omega (arith, R .at .level)) (none-open k h))
 
-      pub empties :
-          {ws″ roots″ : List ℕ} {m : ℕ} → length ws″ ≡ length (s' .words)
-          → ClosedTo (length picture) (s' .words) (s' .roots) ws″ roots″ l m
-          → Stepped grid picture s (lists ws″ (advanced (s' .heads) l) (s' .tails) roots″) m
-      empties same-length C =
-          record {
-            outcome = by-cases C (λ B. inl (goes-below same-length B)) (λ D. inr (D .0, rw (D .2) (ends-here (D .1))));
-            more = spent-more;
-          }
+        only : (k : ℕ) → k < 256 → getD (s .opened) k 0 < length picture → k ≡ l
+        only k h o =
+            by-cases
+            (below-or-not k l)
+            (λ lower. absurd (omega (arith, none-open k lower)))
+            (λ ge. omega (arith, R .at .top k h (open-root (R .named) k h o)))
 
--- the heads and the tails stay within part 3, so there is an end to the steps
-module _ {grid : Grid} {picture : List ℕ} {s : Lists} {l : ℕ} where
-  spent-le : Ready grid picture s l → spent s ≤ 512 * length picture
-  spent-le R =
+        ends-here :
+            {ws″ opened″ : List ℕ}
+            → Shut (length picture) (s .words) (s .opened) ws″ opened″ l (getD (s .opened) l 0)
+            → NumberedBy grid picture ws″ (taken-of opened″)
+        ends-here S =
+            named-ended
+            (R .named)
+            (S .shutting)
+            (R .at .level)
+            refl
+            open-here
+            (root-greys R)
+            only
+            refl
+            (sound' .open-root l (R .at .level) (R .at .open-here) .own)
+            (ends sound' bytes emptied none-below (λ q a b. adjacent-before grid (R .wide) q a))
+
+      module _ {ws″ opened″ : List ℕ} {m : ℕ} (same-length : length ws″ ≡ length (s .words))
+          (C : ClosedTo (length picture) (s .words) (s .opened) ws″ opened″ l m)
+        where
+          abbrev after : Lists
+          after = lists ws″ (advanced (s .heads) l) (s .tails) opened″
+
+          pub empties : Left grid picture s after m
+          empties =
+              record {
+                outcome =
+                    by-cases C (λ B. inl (goes-below same-length (B .0) (B .1))) (λ D. inr (D .0, ends-here (D .1) (D .2)));
+                more = spent-more;
+              }
+
+-- one turn: the flood moves up, or leaves its pixel
+module _ {grid : Grid} {picture : List ℕ} {s s' : Lists} {p q : ℕ} (U : VisitedAround grid picture s s' p q) where
+  pub moves : (q ≡ p → ⊥) → spent s < spent s'
+  moves ne = rw (U .same-heads) (omega (arith, U .raised ne))
+
+  pub leavable : {l : ℕ} → Standing grid picture s l p → q ≡ p → Leavable grid picture s' l p
+  leavable S e =
+      let T : Standing grid picture s' (grey picture p) p = rw e at (U .stands) in
+      record { stands = rw (standing-grey S) at T; met = U .met e }
+
+  pub leaves : {s″ : Lists} {r : ℕ} → Left grid picture s' s″ r → spent s < spent s″
+  leaves L = let both : spent s ≤ spent s' = rw (U .same-heads) (omega (arith, U .more)) in omega (arith, L .more)
+
+-- the heads and the tails stay within part 3, so there is an end to the turns
+module _ {grid : Grid} {picture : List ℕ} {s : Lists} {l p : ℕ} where
+  spent-le : Standing grid picture s l p → spent s ≤ 512 * length picture
+  spent-le S =
       let n = length picture in
+      let R = S .ready in
       let t : (k : ℕ) → k < 256 → getD (s .tails) k 0 ≤ length picture = tail-le (R .sound) in
       omega (
         arith,
@@ -167,12 +227,20 @@ module _ {grid : Grid} {picture : List ℕ} {s : Lists} {l : ℕ} where
       )
 
   pub spent-falls :
-      {s' : Lists} {r : ℕ} → Ready grid picture s l → Stepped grid picture s s' r
+      (s' : Lists) → Standing grid picture s l p → spent s < spent s'
       → 512 * length picture + 1 - spent s' < 512 * length picture + 1 - spent s
-  spent-falls R T = omega (arith, spent-le R, T .more)
+  spent-falls s' S more = omega (arith, spent-le S)
 
-  pub unfinished : Outcome grid picture s l → (l ≡ 256 → ⊥) → Ready grid picture s l
-  unfinished O ne = by-cases O (λ R. R) (λ D. absurd (ne (D .0)))
+  pub unfinished : Standing grid picture s l p ⊎ Ended grid picture s l → (l ≡ 256 → ⊥) → Standing grid picture s l p
+  unfinished O ne = by-cases O (λ S. S) (λ D. absurd (ne (D .0)))
 
-  pub ended : Outcome grid picture s l → l ≡ 256 → FloodedBy grid picture (s .words)
-  ended O e = by-cases O (λ R. absurd (omega (arith, R .at .level))) (λ D. D .1)
+  pub ended : Standing grid picture s l p ⊎ Ended grid picture s l → l ≡ 256 → NumberedBy grid picture (s .words) (taken-of (s .opened))
+  ended O e = by-cases O (λ S. absurd (omega (arith, S .ready .at .level))) (λ D. D .1)
+
+-- the level that follows
+module _ {grid : Grid} {picture : List ℕ} {s s' : Lists} {r : ℕ} (L : Left grid picture s s' r) where
+  pub next-ready : (r ≡ 256 → ⊥) → Ready grid picture s' r
+  next-ready ne = by-cases (L .outcome) (λ R. R) (λ D. absurd (ne (D .0)))
+
+  pub no-next : r ≡ 256 → Ended grid picture s' r
+  no-next e = by-cases (L .outcome) (λ R. absurd (omega (arith, R .at .level))) (λ D. D)

@@ -1,5 +1,6 @@
 -- What the functions of the flood ask and leave, on the lists that they are lent.
 use Prim.Native.Nat.{ℕ, _+_, _<_}
+use mathlib.Core.Bool.{true}
 use mathlib.Core.List.{List}
 use mathlib.Core.Logic.{_⊎_}
 use mathlib.Core.Path.{_≡_}
@@ -8,26 +9,33 @@ use Rattle.grid.specs.Pixels.{pixels}
 use Rattle.grid.specs.Neighbours.{adjacent}
 use Rattle.grid.specs.declared.Grid.{Grid}
 use Rattle.levels.specs.Levels.{grey, entry-sum}
-use Rattle.levels.specs.Workspace.{Sized, parent-of}
-use Rattle.flooding.specs.Flooding.{Flooded}
-use Rattle.queues.specs.Queues.{Lists}
-use Rattle.visits.specs.Visits.{Ready}
+use Rattle.levels.specs.Workspace.{Sized, number-at, closed-of, up-of}
+use Rattle.flooding.specs.Numbers.{Numbered}
+use Rattle.queues.specs.Queues.{Lists, taken-of}
+use Rattle.visits.specs.Visits.{Ready, Standing}
 
 -- how far the heads and the tails have come
 abbrev pub spent : Lists → ℕ
 spent s = entry-sum (s .heads) 256 + entry-sum (s .tails) 256
 
--- the words of a workspace that the flood of a picture leaves
-abbrev pub FloodedBy : Grid → List ℕ → List ℕ → Type 0
-FloodedBy grid picture ws = Flooded (length picture) (adjacent grid) (grey picture) (parent-of ws)
+-- the words of a workspace that the flood of a picture leaves, which has m nodes
+abbrev pub NumberedBy : Grid → List ℕ → List ℕ → ℕ → Type 0
+NumberedBy grid picture ws m =
+    let n = length picture in
+    Numbered n (adjacent grid) (grey picture) (number-at ws) (up-of n ws) (closed-of n ws) m
 
--- the flood goes on at level r, or has ended, where r is 256
-abbrev pub Outcome : Grid → List ℕ → Lists → ℕ → Type 0
-Outcome grid picture s r = Ready grid picture s r ⊎ ((r ≡ 256) × FloodedBy grid picture (s .words))
+-- the flood stands at the pixel p, at the head of level l, and all its neighbours are met
+pub record Leavable (grid : Grid) (picture : List ℕ) (s : Lists) (l p : ℕ) : Type 0 where
+  pub stands : Standing grid picture s l p
+  pub met : (x : ℕ) → x < length picture → adjacent grid p x ≡ true → number-at (s .words) x < length picture
 
--- a step of the flood
-pub record Stepped (grid : Grid) (picture : List ℕ) (s s' : Lists) (r : ℕ) : Type 0 where
-  pub outcome : Outcome grid picture s' r
+-- the flood has ended, and r is 256
+abbrev pub Ended : Grid → List ℕ → Lists → ℕ → Type 0
+Ended grid picture s r = (r ≡ 256) × NumberedBy grid picture (s .words) (taken-of (s .opened))
+
+-- that pixel is left: the flood goes on at level r, or has ended
+pub record Left (grid : Grid) (picture : List ℕ) (s s' : Lists) (r : ℕ) : Type 0 where
+  pub outcome : Ready grid picture s' r ⊎ Ended grid picture s' r
   pub more : spent s < spent s'
 
 -- a picture of the grid's pixels, with a pixel at least, and a workspace for it

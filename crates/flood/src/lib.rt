@@ -1,71 +1,94 @@
-// Flooding of the max-tree with level queues. Part 1 of the workspace receives the parents, part 3 holds the queues. The other parts are
-// neither read nor written.
-ghost use Rattle.visits.specs.Visits.{held, at-entry, at-exit, Ready};
-ghost use Rattle.flood.specs.Calls.{Stepped, Floodable, FloodedBy};
+// Flooding of the max-tree with level queues. Part 1 of the workspace receives the number of each pixel's node, part 2 the numbers in the
+// order of closing, part 3 holds the queues, and the words of each node receive its parent's number.
+ghost use Rattle.visits.specs.Visits.{held, at-entry, at-exit, Standing};
+ghost use Rattle.queues.specs.Queues.{taken-of};
+ghost use Rattle.flood.specs.Calls.{Leavable, Left, Floodable, NumberedBy};
 use grid::Grid;
 
-// One step of the flood at the level named: the neighbours of the pixel at its head are visited. Where none moves the flood up the head
-// moves on, and a level with nothing left is closed. The answer is the level of the next step, 256 at the end.
-fn step(
+// Leaves the pixel p, whose neighbours are all met: the head of its level moves on, and a level with nothing left is closed. The answer is
+// the level at which the flood goes on, 256 at the end.
+fn leave(
     picture: &[u8],
     grid: Grid,
+    p: usize,
     level: usize,
     ws: &mut [u32],
     heads: &mut [usize; 256],
-    tails: &mut [usize; 256],
-    roots: &mut [usize; 260],
+    tails: &[usize; 256],
+    opened: &mut [usize; 262],
 ) -> usize
-    requires { ⌜ Ready grid (now picture) (held ws heads tails roots) level ⌝ }
-    ensures { λ r. ⌜ Stepped grid (now (picture .entry)) (at-entry ws heads tails roots) (at-exit ws heads tails roots) r ⌝ }
+    requires { ⌜ Leavable grid (now picture) (held ws heads tails opened) level p ⌝ }
+    ensures { λ r. ⌜ Left grid (now (picture .entry)) (at-entry ws heads tails opened) (at-exit ws heads tails opened) r ⌝ }
 {
-    let r = visits::visit_around(picture, grid, level, ws, heads, tails, roots);
-    if r != level {
-        return r;
-    }
     heads[level] = heads[level] + 1;
     if heads[level] != tails[level] {
         return level;
     }
-    queues::close(picture.len(), level, ws, roots)
+    queues::close(picture.len(), level, ws, opened)
 }
 
-// The flood from the level named to its end.
+// The flood from the pixel named, at the head of the level named, to its end. It goes on at once at a brighter pixel that was not met,
+// else at the pixel at the head of the next level.
 fn run(
     picture: &[u8],
     grid: Grid,
     first: usize,
+    start: usize,
     ws: &mut [u32],
     heads: &mut [usize; 256],
     tails: &mut [usize; 256],
-    roots: &mut [usize; 260],
+    opened: &mut [usize; 262],
 )
-    requires { ⌜ Ready grid (now picture) (held ws heads tails roots) first ⌝ }
-    ensures { λ _. ⌜ FloodedBy grid (now (picture .entry)) (now (ws .exit)) ⌝ }
+    requires { ⌜ Standing grid (now picture) (held ws heads tails opened) start first ⌝ }
+    ensures { λ _. ⌜ NumberedBy grid (now (picture .entry)) (now (ws .exit)) (taken-of (now (opened .exit))) ⌝ }
 {
-    let mut level = first;
+    let n = picture.len();
+    let mut p = first;
+    let mut level = start;
     while level != 256 {
-        level = step(picture, grid, level, ws, heads, tails, roots);
+        let q = visits::visit_around(picture, grid, p, level, ws, heads, tails, opened);
+        if q != p {
+            p = q;
+            level = picture[q] as usize;
+        } else {
+            level = leave(picture, grid, p, level, ws, heads, tails, opened);
+            if level != 256 {
+                p = ws[2 * n + heads[level]] as usize;
+            }
+        }
     }
 }
 
-// Floods a picture: on return each parent word is the root of the pixel's node, or of its parent's for a root, and the
-// links to the parents join the same pixels at every level as the picture's edges.
-pub fn flood(picture: &[u8], grid: Grid, ws: &mut [u32])
+// Floods a picture: on return every node has a number, each pixel that of its node, and the parents that the numbers stand for join the
+// same pixels at every level as the picture's edges. The answer is how many nodes there are.
+pub fn flood(picture: &[u8], grid: Grid, ws: &mut [u32]) -> usize
     requires { ⌜ Floodable grid (now picture) (now ws) ⌝ }
-    ensures { λ _. ⌜ FloodedBy grid (now (picture .entry)) (now (ws .exit)) ⌝ }
+    ensures { λ m. ⌜ NumberedBy grid (now (picture .entry)) (now (ws .exit)) m ⌝ }
 {
     let n = picture.len();
     let counts = levels::count_levels(picture);
     let mut heads = levels::run_starts(counts);
     let mut tails = heads;
-    // no level is open: n for each root, and an empty set
-    let mut roots: [usize; 260] = [n; 260];
-    roots[256] = 0;
-    roots[257] = 0;
-    roots[258] = 0;
-    roots[259] = 0;
+    // no level is open: n for each number, an empty set, no number taken and no node closed
+    let mut opened: [usize; 262] = [n; 262];
+    opened[256] = 0;
+    opened[257] = 0;
+    opened[258] = 0;
+    opened[259] = 0;
+    opened[260] = 0;
+    opened[261] = 0;
     levels::fill(&mut ws[0..n], n as u32);
-    let first = picture[0] as usize;
-    queues::push(n, 0, first, ws, &mut tails, &mut roots);
-    run(picture, grid, first, ws, &mut heads, &mut tails, &mut roots);
+    let level = picture[0] as usize;
+    queues::push(n, 0, level, ws, &mut tails, &mut opened);
+    run(
+        picture,
+        grid,
+        0,
+        level,
+        ws,
+        &mut heads,
+        &mut tails,
+        &mut opened,
+    );
+    opened[260]
 }

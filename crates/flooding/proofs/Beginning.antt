@@ -1,4 +1,4 @@
--- Before the first pixel is met nothing is: every parent word is n, no level is open, and every queue is empty at its run's start.
+-- Before the first pixel is met nothing is: every parent is n, no level is open, and every queue is empty at its run's start.
 use Prim.Native.Nat.{ℕ, suc, _+_, _<_}
 use mathlib.Core.Bool.{_&&_}
 use mathlib.Core.Path.{_≡_, refl, sym, ap, _∙_}

@@ -3,3 +3,7 @@ pub mod Finishing
 pub mod Closing
 pub mod Beginning
 pub mod Ending
+pub mod Named
+pub mod Numbering
+pub mod Shutting
+pub mod Numbers

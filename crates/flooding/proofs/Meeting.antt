@@ -354,9 +354,6 @@ module _ {n : ℕ} {adj : Adjacency} {g : ℕ → ℕ} {s s' : State} (S : Sound
           links = new-links reach;
         }
 
-    pub now-met : s' .par q < n
-    now-met = rw (P .par .here) root-in
-
     -- the flood goes on at the brighter of the two levels
     pub met-at :
         (c c' : ℕ) → At n s c → ((c < l) × (c' ≡ l)) ⊎ ((l ≤ c) × (c' ≡ c)) → At n s' c'

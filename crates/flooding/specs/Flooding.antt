@@ -1,6 +1,6 @@
--- What the flood keeps true while it runs, and what it leaves: the parent words only. A state is five functions: of a position (the
--- parent word), of a place in the runs (the pixel met there), and of a level (the head and the tail of its queue, the root of its open
--- node). The number n stands for "not met" in a parent word and for "no node is open" in a root.
+-- What the flood keeps true while it runs, and what it leaves: parents, for which numbers of nodes are stored. A state is five functions: of
+-- a position (its parent), of a place in the runs (the pixel met there), and of a level (the head and the tail of its queue, the root of
+-- its open node). The number n stands for "not met" in a parent and for "no node is open" in a root.
 use Prim.Native.Nat.{ℕ, suc, _+_, _≤_, _<_}
 use mathlib.Core.Bool.{true, _&&_}
 use mathlib.Core.Logic.{_⊎_}
@@ -45,7 +45,7 @@ pub record Finished (n : ℕ) (adj : Adjacency) (g : ℕ → ℕ) (s : State) (q
   pub joined :
       (r : ℕ) → r < n → adj q r ≡ true → (h : ℕ) (G : Adjacency) → Links n g s h G → h ≤ g q → h ≤ g r → Joined G q r
 
--- a met pixel's parent word: a node's root, never brighter than the pixel
+-- a met pixel's parent: a node's root, never brighter than the pixel
 pub record Rooted (n : ℕ) (g par : ℕ → ℕ) (q : ℕ) : Type 0 where
   pub within : par (par q) < n
   pub dim : g (par q) ≤ g q

@@ -10,9 +10,23 @@ pub record Sized (n : ℕ) (ws : List ℕ) : Type 0 where
   pub words : length ws ≡ words-a-pixel * n
   pub small : n ≤ most-pixels
 
--- part 1 of a workspace holds the parents, part 3 the queues: for each level the run of its pixels that are met
-abbrev pub parent-of : List ℕ → ℕ → ℕ
-parent-of ws q = getD ws q 0
-
+-- part 3 holds the queues, for each level the run of its pixels that are met, and then the list of the representatives
 abbrev pub order-of : ℕ → List ℕ → ℕ → ℕ
 order-of n ws i = getD ws (2 * n + i) 0
+
+-- while the tree is built, part 1 holds the number of each pixel's node, and part 2 the numbers in the order of closing
+abbrev pub number-at : List ℕ → ℕ → ℕ
+number-at ws q = getD ws q 0
+
+abbrev pub closed-of : ℕ → List ℕ → ℕ → ℕ
+closed-of n ws i = getD ws (n + i) 0
+
+-- the words of a node stand together in parts 4 to 6, three at 3n + 3 × number: its lowest own pixel, its parent's number, its accumulator
+abbrev pub lowest-of : ℕ → List ℕ → ℕ → ℕ
+lowest-of n ws k = getD ws (3 * n + 3 * k) 0
+
+abbrev pub up-of : ℕ → List ℕ → ℕ → ℕ
+up-of n ws k = getD ws (3 * n + 3 * k + 1) 0
+
+abbrev pub held-of : ℕ → List ℕ → ℕ → ℕ
+held-of n ws k = getD ws (3 * n + 3 * k + 2) 0

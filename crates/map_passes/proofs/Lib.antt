@@ -1,5 +1,6 @@
 pub mod Settling
-pub mod Holding
+pub mod Turns
+pub mod Keeping
 pub mod Visiting
 pub mod Spreading
 pub mod Climbing

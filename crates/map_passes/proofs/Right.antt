@@ -1,18 +1,18 @@
 -- What the nodes hold at the end is the residue and the index of the definition. By the greys from dark to bright: a settled node whose
 -- parent holds the right values holds the right values. Any tests that get narrower will do, if the places are those at which nodes fall.
-use Prim.Native.Nat.{ℕ, zero, suc, _+_, _*_, _/_, _%_, _≤_, _<_}
+use Prim.Native.Nat.{ℕ, zero, suc, _+_, _-_, _*_, _/_, _%_, _≤_, _<_}
 use mathlib.Core.Bool.{true, cond}
 use mathlib.Core.List.{List}
 use mathlib.Core.Logic.{⊎-elim}
-use mathlib.Core.Path.{_≡_, refl, sym, ap, subst, _∙_}
+use mathlib.Core.Path.{_≡_, refl, sym, ap, _∙_}
 use native.Mathlib.Nat.{le-refl}
 use native.Mathlib.Numerals.{add-one}
 use native.Mathlib.Omega.{arith}
 use lib.Dec.{eqb}
-use lib.ListN.{length, getD, length-map}
-use borrow.Author.Tests.{eq-eqb, ne-eqb, eqb-true, eqb-false}
+use lib.ListN.{length, length-map}
+use borrow.Author.Tests.{eq-eqb, ne-eqb}
 use Rattle.sets.specs.Sets.{Positions, member}
-use Rattle.sets.proofs.Tests.{decided, le-or-lt}
+use Rattle.sets.proofs.Tests.{le-or-lt}
 use Rattle.connected.specs.Component.{Adjacency, Symmetric}
 use Rattle.opening.specs.Opening.{least-grey, Keeps, Increasing, at-least}
 use Rattle.opening.specs.Node.{node}
@@ -21,168 +21,146 @@ use Rattle.opening.proofs.Levels.{cond-case}
 use Rattle.opening.proofs.Residue.{threshold-tests-narrow}
 use Rattle.tree.specs.Tree.{representative}
 use Rattle.tree.proofs.Together.{Together}
-use Rattle.tree.proofs.Representatives.{representative-in, representative-grey, representative-below}
+use Rattle.tree.proofs.Representatives.{representative-in, representative-grey}
 use Rattle.tree.proofs.Parents.{Over, Parent}
-use Rattle.tree.proofs.Words.{Positive}
-use Rattle.calls.specs.Calls.{grey}
+use Rattle.numbers.specs.Nodes.{Nodes}
 use Rattle.falls.specs.Falls.{fall-place, running-fall}
 use Rattle.falls.proofs.Places.{places-outlasted}
 use Rattle.falls.proofs.Nodes.{place-le, place-root, place-node, never-falls, running-le, running-parent, residue-parent, index-parent, residue-own, index-own}
 use Rattle.places.specs.Places.{place-of}
-use Rattle.map_passes.specs.Settle.{down, shared-fall, run-of, pair-of}
-use Rattle.map_passes.specs.Passes.{place-at, Stands, Climbable, Settled, holder}
-use Rattle.map_passes.specs.Recorded.{Recorded}
-use Rattle.map_passes.proofs.Settling.{word-never, pair-never, word-falls, pair-residue, pair-index}
-use Rattle.map_passes.proofs.Spreading.{holder-self, holder-other}
-use Rattle.map_passes.proofs.Climbing.{recorded-attribute, recorded-parent, recorded-other, recorded-climbable}
+use Rattle.map_passes.specs.Settle.{run-in, pair-in, index-in, shared-fall, fall-of, pair-of}
+use Rattle.map_passes.specs.Passes.{Settled}
+use Rattle.map_passes.proofs.Settling.{run-never, pair-never, run-falls, pair-residue, pair-index}
+use Rattle.map_passes.proofs.Climbing.{nodes-up}
 
--- the node of q holds the right values
-record Right (n : ℕ) (adj : Adjacency) (tests : List Keeps) (picture held : List ℕ) (q : ℕ) : Type 0 where
-  pub place : getD held q 0 / 256 ≡ fall-place n adj tests (grey picture) q
-  pub run : fall-place n adj tests (grey picture) q < length tests
-      → getD held q 0 % 256 ≡ running-fall n adj tests (grey picture) q
-  pub residue : getD held (n + q) 0 % 256 ≡ residue-by n adj tests (grey picture) q
-  pub index : getD held (n + q) 0 / 256 ≡ index-by n adj tests (grey picture) q
+-- the word is right for the node of q, which falls at one of the tests or never
+record Right (n : ℕ) (adj : Adjacency) (tests : List Keeps) (g : ℕ → ℕ) (word q : ℕ) : Type 0 where
+  pub never : length tests ≤ fall-place n adj tests g q → run-in word ≡ 0
+  pub place : fall-place n adj tests g q < length tests → run-in word / 256 ≡ fall-place n adj tests g q
+  pub run : fall-place n adj tests g q < length tests → run-in word % 256 ≡ running-fall n adj tests g q
+  pub residue : pair-in word % 256 ≡ residue-by n adj tests g q
+  pub index : index-in (pair-in word) ≡ index-by n adj tests g q
 
--- a word of which place and running fall are known
-shared-is : (word k place run : ℕ) → word / 256 ≡ place → (place ≡ k → word % 256 ≡ run) → shared-fall word k ≡ cond (eqb place k) run 0
+-- what is shared at a step k of m with a node of which place and running fall are known
+shared-is : (run k m place fall : ℕ) → k < m → (m ≤ place → run ≡ 0) → (place < m → run / 256 ≡ place) → (place < m → run % 256 ≡ fall)
+    → shared-fall run k ≡ cond (eqb place k) fall 0
 unfolding shared-fall
-shared-is word k place run e f =
-    rw e (cond-case (λ (x : ℕ). x ≡ cond (eqb place k) run 0) (eqb place k) (λ t. rw t (f (eqb-true place k t))) (λ t. rw t refl))
-
--- for the tests of thresholds the place that the words give is the one at which the node falls
-pub places-right : {n nodes : ℕ} {adj : Adjacency} {attr : Positions → ℕ} {picture words : List ℕ} → Symmetric adj → Increasing n attr
-    → Positive n attr → Recorded n nodes adj attr picture words
-    → ((p q : ℕ) → p < n → q < n → Together n adj (grey picture) (least-grey n (grey picture)) p q)
-    → (steps : List ℕ) → rising 0 steps ≡ true → (q : ℕ) → q < n → Stands n words q
-    → place-at n steps words q ≡ fall-place n adj (threshold-tests attr steps) (grey picture) q
-unfolding place-of
-places-right {n} {adj = adj} {attr} {picture} {words} symm rise positive recorded whole steps up q b stands =
-    let tests : List Keeps = threshold-tests attr steps in
-    let narrow : Narrowing n (at-least attr 0) tests = threshold-tests-narrow n attr rise 0 steps up in
+shared-is run k m place fall l never at is =
     ⊎-elim
-    (λ (w : Parent n adj (grey picture) q (getD words q 0)).
-    rw
-    (ne-eqb (getD words q 0) q (λ e. omega (arith, w .darker, ap (grey picture) e)), recorded-attribute symm positive recorded q b stands)
-    (sym
-    (place-node n adj symm (grey picture) (at-least attr 0) tests narrow whole q (getD words q 0) w
-    ∙ places-outlasted attr (member (node n adj (grey picture) q)) steps)))
-    (λ root.
-    rw
-    (eq-eqb (getD words q 0) q (root .1))
-    (sym
-    (place-root n adj symm (grey picture) (at-least attr 0) tests narrow whole q b (root .0) ∙ length-map steps (at-least attr))))
-    (recorded-parent symm positive recorded q b stands)
+    (λ past. rw (never past, ne-eqb place k (λ e. omega arith)) (cond-case (λ (x : ℕ). x ≡ 0) (eqb 0 k) (λ t. refl) (λ t. refl)))
+    (λ falls. rw (at falls, is falls) refl)
+    (le-or-lt m place)
 
-module _ {n nodes m : ℕ} {adj : Adjacency} {attr : Positions → ℕ} {place : ℕ → ℕ} {picture words held : List ℕ} (symm : Symmetric adj)
-    (positive : Positive n attr) (recorded : Recorded n nodes adj attr picture words)
-    (whole : (p q : ℕ) → p < n → q < n → Together n adj (grey picture) (least-grey n (grey picture)) p q) (wide : Keeps)
-    (tests : List Keeps) (narrow : Narrowing n wide tests) (number : length tests ≡ m)
-    (place-right : (q : ℕ) → q < n → Stands n words q → place q ≡ fall-place n adj tests (grey picture) q)
-    (bytes : (q : ℕ) → getD picture q 0 < 256)
-    (settled : (q : ℕ) → q < n → Stands n words q → Settled n m place picture words held q) where
-  right-never : (q : ℕ) → q < n → Stands n words q → length tests ≤ fall-place n adj tests (grey picture) q
-      → Right n adj tests picture held q
-  right-never q b stands l =
-      let s = settled q b stands in
-      let k = place-right q b stands in
-      let never : fall-place n adj tests (grey picture) q ≡ length tests = omega (arith, place-le n adj symm (grey picture) wide tests narrow whole q) in
-      let none = never-falls n adj symm (grey picture) wide tests narrow whole q b never in
-      let word : getD held q 0 ≡ fall-place n adj tests (grey picture) q * 256 = s .word ∙ rw (k, ← number) (word-never _ _ _ _ l) in
-      let pair : getD held (n + q) 0 ≡ 0 = s .pair ∙ rw (k, ← number) (pair-never _ _ _ _ _ l) in
-      record {
-        place = omega arith;
-        run = λ falls. absurd (omega arith);
-        residue = rw pair (sym (none .0));
-        index = rw pair (sym (none .1));
-      }
-
-  run-right : (q : ℕ) → q < n → fall-place n adj tests (grey picture) q < length tests → Parent n adj (grey picture) q (getD words q 0)
-      → Right n adj tests picture held (getD words q 0)
-      → run-of (fall-place n adj tests (grey picture) q) (down picture q (getD words q 0)) (getD held (getD words q 0) 0)
-      ≡ running-fall n adj tests (grey picture) q
-  unfolding run-of
-  run-right q b l w above =
+module _ {n nodes : ℕ} {adj : Adjacency} {attr : Positions → ℕ} {g num low up held closed : ℕ → ℕ} (symm : Symmetric adj)
+    (N : Nodes n adj attr g num low up held closed nodes)
+    (whole : (p q : ℕ) → p < n → q < n → Together n adj g (least-grey n g) p q) where
+  -- for the tests of thresholds the place that the words give is the one at which the node falls
+  pub places-right : Increasing n attr → (steps : List ℕ) → rising 0 steps ≡ true → (k : ℕ) → k < nodes
+      → place-of steps (low k) (low (up k)) (held k) ≡ fall-place n adj (threshold-tests attr steps) g (low k)
+  unfolding place-of
+  places-right rise steps rises k b =
+      let q : ℕ = low k in
+      let tests : List Keeps = threshold-tests attr steps in
+      let narrow : Narrowing n (at-least attr 0) tests = threshold-tests-narrow n attr rise 0 steps rises in
+      ⊎-elim
+      (λ (w : Parent n adj g q (low (up k))).
       rw
-      (shared-is _ (fall-place n adj tests (grey picture) q) _ _ (above .place) (λ e. above .run (omega arith)))
-      (sym (running-parent n adj symm (grey picture) wide tests narrow whole q (getD words q 0) b w l))
+      (ne-eqb (low (up k)) q (λ e. omega (arith, w .darker, ap g e)), N .attributes k b)
+      (sym
+      (place-node n adj symm g (at-least attr 0) tests narrow whole q (low (up k)) w
+      ∙ places-outlasted attr (member (node n adj g q)) steps)))
+      (λ root.
+      rw
+      (eq-eqb (low (up k)) q (root .1))
+      (sym
+      (place-root n adj symm g (at-least attr 0) tests narrow whole q (N .low-within k b) (root .0) ∙ length-map steps (at-least attr))))
+      (nodes-up symm N k b)
 
-  right-falls : (q : ℕ) → q < n → Stands n words q → fall-place n adj tests (grey picture) q < length tests
-      → Parent n adj (grey picture) q (getD words q 0) → Right n adj tests picture held (getD words q 0)
-      → Right n adj tests picture held q
-  right-falls q b stands l w above =
-      let x : ℕ = getD words q 0 in
-      let place-q : ℕ = fall-place n adj tests (grey picture) q in
-      let s = settled q b stands in
-      let k = place-right q b stands in
-      let run : run-of place-q (down picture q x) (getD held x 0) ≡ running-fall n adj tests (grey picture) q = run-right q b l w above in
-      let word : getD held q 0 ≡ place-q * 256 + running-fall n adj tests (grey picture) q = s .word ∙ rw (k, ← number, word-falls _ _ _ _ l, run) refl in
-      let pair : getD held (n + q) 0 ≡ pair-of (length tests) place-q (down picture q x) (getD held x 0) (getD held (n + x) 0) = s .pair ∙ rw (k, number) refl in
-      let low = running-le n adj symm (grey picture) wide tests narrow whole q b in
-      let byte : run-of place-q (down picture q x) (getD held x 0) < 256 = omega (arith, run, bytes q) in
-      record {
-        place = omega (arith, bytes q);
-        run = λ falls. omega (arith, bytes q);
-        residue =
-            ap (λ (v : ℕ). v % 256) pair
-            ∙ pair-residue _ _ _ _ _ l byte
-            ∙ rw (run, above .residue) (sym (residue-parent n adj symm (grey picture) wide tests narrow whole q x b w l));
-        index =
-            ap (λ (v : ℕ). v / 256) pair
-            ∙ pair-index _ _ _ _ _ l byte
-            ∙ rw (run, above .residue, above .index, add-one) (sym (index-parent n adj symm (grey picture) wide tests narrow whole q x b w l));
-      }
+  module _ {m : ℕ} {place word : ℕ → ℕ} (wide : Keeps) (tests : List Keeps) (narrow : Narrowing n wide tests) (number : length tests ≡ m)
+      (place-right : (k : ℕ) → k < nodes → place k ≡ fall-place n adj tests g (low k)) (bytes : (q : ℕ) → g q < 256)
+      (settled : (k : ℕ) → k < nodes → Settled m place g low up word k) where
+    right-never : (k : ℕ) → k < nodes → length tests ≤ fall-place n adj tests g (low k) → Right n adj tests g (word k) (low k)
+    right-never k b l =
+        let s = settled k b in
+        let e = place-right k b in
+        let never : fall-place n adj tests g (low k) ≡ length tests = omega (arith, place-le n adj symm g wide tests narrow whole (low k)) in
+        let none = never-falls n adj symm g wide tests narrow whole (low k) (N .low-within k b) never in
+        let run : run-in (word k) ≡ 0 = s .run ∙ rw (e, ← number) (run-never _ _ _ _ l) in
+        let pair : pair-in (word k) ≡ 0 = s .pair ∙ rw (e, ← number) (pair-never _ _ _ _ _ l) in
+        record {
+          never = λ past. run;
+          place = λ falls. absurd (omega arith);
+          run = λ falls. absurd (omega arith);
+          residue = rw pair (sym (none .0));
+          index = rw pair (sym (none .1));
+        }
 
-  -- every node does, by its grey
-  right-all : (k q : ℕ) → q < n → getD picture q 0 < k → Stands n words q → Right n adj tests picture held q
-  right-all zero q b l stands = absurd (omega arith)
-  right-all (suc k) q b l stands =
-      ⊎-elim
-      (λ never. right-never q b stands never)
-      (λ falls.
-      ⊎-elim
-      (λ (w : Parent n adj (grey picture) q (getD words q 0)).
-      right-falls q b stands falls w (right-all k (getD words q 0) (climb .within q b) (omega (arith, w .darker)) (climb .leads q b)))
-      (λ root. absurd (omega (arith, place-root n adj symm (grey picture) wide tests narrow whole q b (root .0))))
-      (recorded-parent symm positive recorded q b stands))
-      (le-or-lt (length tests) (fall-place n adj tests (grey picture) q))
-    where
-      climb : Climbable n nodes picture words
-      climb = recorded-climbable symm positive recorded
+    -- a node below its parent
+    module _ (k : ℕ) (b : k < nodes) (l : fall-place n adj tests g (low k) < length tests) (w : Parent n adj g (low k) (low (up k)))
+        (above : Right n adj tests g (word (up k)) (low (up k))) where
+      abbrev q : ℕ
+      q = low k
 
-  -- the pair that a pixel finds
-  abbrev pair-held : ℕ → ℕ
-  pair-held q = getD held (n + holder q (getD words q 0) (getD words (n + q) 0)) 0
+      abbrev x : ℕ
+      x = low (up k)
 
-  -- it holds what is right for the pixel
-  pub holder-right : (q : ℕ) → q < n
-      → (pair-held q % 256 ≡ residue-by n adj tests (grey picture) q)
-      × (pair-held q / 256 ≡ index-by n adj tests (grey picture) q)
-  holder-right q b =
-      ⊎-elim
-      (λ e. other (eqb-true (getD words (n + q) 0) 0 e))
-      (λ e. own (⊎-elim (λ l. absurd (eqb-false (getD words (n + q) 0) 0 e (omega arith))) (λ l. l) (le-or-lt (getD words (n + q) 0) 0)))
-      (decided (eqb (getD words (n + q) 0) 0))
-    where
-      own : Stands n words q
-          → (pair-held q % 256 ≡ residue-by n adj tests (grey picture) q)
-          × (pair-held q / 256 ≡ index-by n adj tests (grey picture) q)
-      own stands =
-          let right = right-all (suc (getD picture q 0)) q b (le-refl (suc (getD picture q 0))) stands in
-          rw (holder-self q (getD words q 0) (getD words (n + q) 0) stands) (right .residue, right .index)
+      abbrev place-q : ℕ
+      place-q = fall-place n adj tests g q
 
-      other : getD words (n + q) 0 ≡ 0
-          → (pair-held q % 256 ≡ residue-by n adj tests (grey picture) q)
-          × (pair-held q / 256 ≡ index-by n adj tests (grey picture) q)
-      other none =
-          let r : ℕ = representative n adj (grey picture) q in
-          let e : getD words q 0 ≡ r = recorded-other symm positive recorded q b none in
-          let climb : Climbable n nodes picture words = recorded-climbable symm positive recorded in
-          let same : grey picture r ≡ grey picture q = representative-grey n adj symm (grey picture) q b in
-          let over : Over n adj (grey picture) r q = subst (λ (h : ℕ). Together n adj (grey picture) h q r) (sym same) (representative-in n adj symm (grey picture) q b) in
-          let stands : Stands n words r = subst (λ (x : ℕ). Stands n words x) e (climb .leads q b) in
-          let right = right-all (suc (getD picture r 0)) r (representative-below n adj symm (grey picture) q b) (le-refl (suc (getD picture r 0))) stands in
-          rw (holder-other q (getD words q 0) (getD words (n + q) 0) none, e) (
-            right .residue ∙ sym (residue-own n adj symm (grey picture) wide tests narrow q r b over same),
-            right .index ∙ sym (index-own n adj symm (grey picture) wide tests narrow q r b over same),
-          )
+      run-right : fall-of place-q (g q - g x) (run-in (word (up k))) ≡ running-fall n adj tests g q
+      unfolding fall-of
+      run-right =
+          rw
+          (shared-is _ place-q (length tests) _ _ l (above .never) (above .place) (above .run))
+          (sym (running-parent n adj symm g wide tests narrow whole q x (N .low-within k b) w l))
+
+      right-falls : Right n adj tests g (word k) q
+      right-falls =
+          let inside : q < n = N .low-within k b in
+          let s = settled k b in
+          let e = place-right k b in
+          let run : run-in (word k) ≡ place-q * 256 + running-fall n adj tests g q =
+          s .run ∙ rw (e, ← number, run-falls _ _ _ _ l, run-right) refl in
+          let pair : pair-in (word k) ≡ pair-of (length tests) place-q (g q - g x) (run-in (word (up k))) (pair-in (word (up k))) =
+          s .pair ∙ rw (e, number) refl in
+          let low-fall = running-le n adj symm g wide tests narrow whole q inside in
+          let byte : fall-of place-q (g q - g x) (run-in (word (up k))) < 256 = omega (arith, run-right, bytes q) in
+          record {
+            never = λ past. absurd (omega arith);
+            place = λ falls. omega (arith, bytes q);
+            run = λ falls. omega (arith, bytes q);
+            residue =
+                ap (λ (v : ℕ). v % 256) pair
+                ∙ pair-residue _ _ _ _ _ l byte
+                ∙ rw (run-right, above .residue) (sym (residue-parent n adj symm g wide tests narrow whole q x inside w l));
+            index =
+                ap index-in pair
+                ∙ pair-index _ _ _ _ _ l byte
+                ∙ rw (run-right, above .residue, above .index, add-one) (sym (index-parent n adj symm g wide tests narrow whole q x inside w l));
+          }
+
+    -- every node does, by its grey
+    right-all : (h k : ℕ) → k < nodes → g (low k) < h → Right n adj tests g (word k) (low k)
+    right-all zero k b l = absurd (omega arith)
+    right-all (suc h) k b l =
+        ⊎-elim
+        (λ never. right-never k b never)
+        (λ falls.
+        ⊎-elim
+        (λ (w : Parent n adj g (low k) (low (up k))). right-falls k b falls w (right-all h (up k) (N .ups k b) (omega (arith, w .darker))))
+        (λ root. absurd (omega (arith, place-root n adj symm g wide tests narrow whole (low k) (N .low-within k b) (root .0))))
+        (nodes-up symm N k b))
+        (le-or-lt (length tests) (fall-place n adj tests g (low k)))
+
+    -- the word of a pixel's number holds what is right for the pixel
+    pub word-right : (q : ℕ) → q < n
+        → (pair-in (word (num q)) % 256 ≡ residue-by n adj tests g q) × (index-in (pair-in (word (num q))) ≡ index-by n adj tests g q)
+    word-right q b =
+        let r : ℕ = low (num q) in
+        let is : r ≡ representative n adj g q = N .representatives q b in
+        let same : g r ≡ g q = ap g is ∙ representative-grey n adj symm g q b in
+        let over : Over n adj g r q = rw (same, is) (representative-in n adj symm g q b) in
+        let right = right-all (suc (g r)) (num q) (N .within q b) (le-refl (suc (g r))) in (
+          right .residue ∙ sym (residue-own n adj symm g wide tests narrow q r b over same),
+          right .index ∙ sym (index-own n adj symm g wide tests narrow q r b over same),
+        )

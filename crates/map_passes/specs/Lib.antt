@@ -1,3 +1,2 @@
 pub mod Settle
 pub mod Passes
-pub mod Recorded

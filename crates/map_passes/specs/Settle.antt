@@ -1,59 +1,53 @@
--- What the pass over the nodes computes for one node from what its parent holds. A node holds two words. Its run word is the place of the
--- step at which it falls, times 256, and the node's running fall: its residue at that step. Its pair is the step of its largest
--- residue, counted from 1, times 256, and that residue; it is 0 where the residue is 0. So a pair modulo 256 is the residue and over
--- 256 the index.
-use Prim.Native.Nat.{ℕ, _+_, _-_, _*_, _/_, _%_, _≤_, _<_}
+-- What the pass over the nodes computes for one node from what its parent holds. A node holds one word, its run and its pair in 16 bits
+-- each. Its run is the place of the step at which it falls, times 256, and the node's running fall: its residue at that step; it is 0 for a
+-- node that never falls. Its pair is the place of the step of its largest residue, times 256, and that residue; it is 0 where the residue
+-- is 0. So a pair modulo 256 is the residue, and over 256, rounded up, it is the index, counted from 1.
+use Prim.Native.Nat.{ℕ, _+_, _*_, _/_, _%_, _≤_, _<_}
 use mathlib.Core.Bool.{cond}
 use mathlib.Core.List.{List}
-use mathlib.Core.Path.{_≡_}
 use lib.Dec.{eqb, ltb}
 use lib.ListN.{length, getD, set}
 use Rattle.causes.specs.Bounds.{most-steps}
 
--- the fall from r to its parent
-abbrev pub down : List ℕ → ℕ → ℕ → ℕ
-down picture r parent = getD picture r 0 - getD picture parent 0
+-- the run and the pair of a node, from its word
+abbrev pub run-in : ℕ → ℕ
+run-in word = word / 65536
 
--- the running fall that a word holds, if its node falls at the step k
+abbrev pub pair-in : ℕ → ℕ
+pair-in word = word % 65536
+
+-- the index that a pair holds
+abbrev pub index-in : ℕ → ℕ
+index-in pair = (pair + 255) / 256
+
+-- the running fall that a run holds, if its node falls at the step k
 unfoldable pub shared-fall : ℕ → ℕ → ℕ
-shared-fall word k = cond (eqb (word / 256) k) (word % 256) 0
+shared-fall run k = cond (eqb (run / 256) k) (run % 256) 0
 
 -- the running fall of a node that falls at the step k: the fall from its parent, and the parent's running fall if that falls at the same step
-unfoldable pub run-of : ℕ → ℕ → ℕ → ℕ
-run-of k fall word = fall + shared-fall word k
+unfoldable pub fall-of : ℕ → ℕ → ℕ → ℕ
+fall-of k fall run = fall + shared-fall run k
 
--- the run word of a node that falls at place k of m steps
-unfoldable pub word-of : ℕ → ℕ → ℕ → ℕ → ℕ
-word-of m k fall word = cond (ltb k m) (k * 256 + run-of k fall word) (k * 256)
+-- the run of a node that falls at place k of m steps, from its parent's
+unfoldable pub run-of : ℕ → ℕ → ℕ → ℕ → ℕ
+run-of m k fall run = cond (ltb k m) (k * 256 + fall-of k fall run) 0
 
--- its pair: the running fall and its step, if the fall is more than the parent's largest residue, else the parent's pair
+-- its pair: its run, if the running fall is more than the parent's largest residue, else the parent's pair
 unfoldable pub pair-of : ℕ → ℕ → ℕ → ℕ → ℕ → ℕ
-pair-of m k fall word pair =
-    cond (ltb k m) (cond (ltb (pair % 256) (run-of k fall word)) ((k + 1) * 256 + run-of k fall word) pair) 0
+pair-of m k fall run pair =
+    cond (ltb k m) (cond (ltb (pair % 256) (fall-of k fall run)) (k * 256 + fall-of k fall run) pair) 0
 
--- what one node needs: its place among m steps, the parent darker and settled; the words of the nodes, run words and then pairs
-pub record Settleable (picture : List ℕ) (m k : ℕ) (held : List ℕ) (r parent : ℕ) : Type 0 where
+-- its word, from its parent's
+abbrev pub word-of : ℕ → ℕ → ℕ → ℕ → ℕ
+word-of m k fall word = run-of m k fall (run-in word) * 65536 + pair-of m k fall (run-in word) (pair-in word)
+
+-- what a node of number k needs that falls at a place among m steps: the running fall is a byte
+pub record Settleable (m place fall k up : ℕ) (held : List ℕ) : Type 0 where
   pub few : m ≤ most-steps
-  pub among : k ≤ m
-  pub root : parent ≡ r → m ≤ k
-  pub size : length held ≡ 2 * length picture
-  pub node : r < length picture
-  pub above : parent < length picture
-  pub darker : getD picture parent 0 ≤ getD picture r 0
-  pub low : (parent ≡ r → ⊥) → getD held parent 0 % 256 ≤ getD picture parent 0
+  pub node : k < length held
+  pub above : up < length held
+  pub byte : place < m → fall + run-in (getD held up 0) % 256 < 256
 
--- both words stored at r, the pair n words behind the run word
-abbrev pub both-at : ℕ → List ℕ → ℕ → ℕ → ℕ → List ℕ
-both-at n held r word pair = set (set held r word) (n + r) pair
-
--- the words of the nodes after the node of r, which falls at place k of m steps, is settled
-unfoldable pub settled-at : List ℕ → ℕ → ℕ → List ℕ → ℕ → ℕ → List ℕ
-settled-at picture m k held r parent =
-    let word : ℕ = getD held parent 0 in
-    let pair : ℕ = getD held (length picture + parent) 0 in
-    both-at
-    (length picture)
-    held
-    r
-    (word-of m k (down picture r parent) word)
-    (pair-of m k (down picture r parent) word pair)
+-- what the nodes hold after it is settled, from what its parent holds, of number up
+unfoldable pub settled-at : ℕ → ℕ → ℕ → ℕ → ℕ → List ℕ → List ℕ
+settled-at m place fall k up held = set held k (word-of m place fall (getD held up 0))

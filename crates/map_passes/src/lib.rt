@@ -1,61 +1,69 @@
-// The two passes over the tree record of a picture that give its maps: one over the nodes from dark to bright, which settles each node
-// from its parent, then one over the pixels, which alone writes the maps. What a node holds stands at its representative: in part 4 its
-// run word, place × 256 + running fall, in part 5 its pair, index × 256 + largest residue, 0 where that is 0. Their time grows with the
-// number of steps only by the search for the steps at which nodes fall.
+// The two passes over the nodes of a picture that give its maps: one over the nodes, from the last closed to the first and so from
+// parents to children, which settles each node from its parent, then one over the pixels, which alone writes the maps. What a node holds
+// stands in one word by its number, in part 3: run × 65536 + pair. The run is place × 256 + running fall, 0 for a node that never falls;
+// the pair is (index − 1) × 256 + largest residue, 0 where that is 0. As there are at most 256 steps, both fit 16 bits. The time grows with
+// the number of steps only by the search for the steps at which nodes fall.
 ghost use mathlib.Core.Path.{_≡_};
-ghost use Prim.Native.Nat.{ℕ, _+_, _*_, _/_, _%_};
-ghost use lib.ListN.{length, take};
+ghost use mathlib.Core.Bool.{cond};
+ghost use Prim.Native.Nat.{ℕ, _%_, _<_};
+ghost use lib.Dec.{ltb};
+ghost use lib.ListN.{length};
 ghost use Rattle.sets.specs.Sets.{table};
-ghost use Rattle.causes.specs.Bounds.{words-a-pixel};
+ghost use Rattle.levels.specs.Workspace.{closed-of};
 ghost use Rattle.places.specs.Places.{small-places};
-ghost use Rattle.map_passes.specs.Settle.{shared-fall, Settleable, settled-at};
-ghost use Rattle.map_passes.specs.Passes.{Given, Settled-to, Visitable, holder, pair-at, Spreadable, Ready};
-ghost use Rattle.map_passes.specs.Recorded.{Written};
+ghost use Rattle.map_passes.specs.Settle.{shared-fall, index-in, Settleable, settled-at};
+ghost use Rattle.map_passes.specs.Passes.{Given, Settled-from, Visitable, visited-at, pair-at, Spreadable, Ready, Written};
 
-// The running fall of a node, from its word, if it falls at the step k.
-fn shared(word: u32, k: u32) -> u32
-    ensures { λ r. ⌜ r ≡ shared-fall word k ⌝ }
+// The running fall of a node, from its run, if it falls at the step k.
+fn shared(run: u32, k: u32) -> u32
+    ensures { λ r. ⌜ r ≡ shared-fall run k ⌝ }
 {
-    if word / 256 == k { word % 256 } else { 0 }
+    if run / 256 == k { run % 256 } else { 0 }
 }
 
-// Settles the node of r, which falls at place k of `count` steps, and whose parent is settled: stores its run word and, a part on, its
-// pair. The fall from its parent merges into the parent's running fall if both fall at the same step, and wins only if it is more than
-// the parent's largest residue.
-fn settle(picture: &[u8], count: usize, k: usize, r: usize, parent: usize, held: &mut [u32])
-    requires { ⌜ Settleable (now picture) count k (now held) r parent ⌝ }
-    ensures { λ _. ⌜ now (held .exit) ≡ settled-at (now (picture .entry)) count k (now (held .entry)) r parent ⌝ }
+// The pair of a node: its run if its fall is more than the largest residue of its parent's pair, else that pair. Both are at hand.
+fn better(fall: u32, run: u32, pair: u32) -> u32
+    ensures { λ r. ⌜ r ≡ cond (ltb (pair % 256) fall) run pair ⌝ }
 {
-    let n = picture.len();
-    if count <= k {
-        held[r] = (k as u32) * 256;
-        held[n + r] = 0;
-        return;
-    }
-    let run = (picture[r] - picture[parent]) as u32 + shared(held[parent], k as u32);
-    let pair = held[n + parent];
-    held[r] = (k as u32) * 256 + run;
-    if pair % 256 < run {
-        held[n + r] = (k as u32 + 1) * 256 + run;
-        return;
-    }
-    held[n + r] = pair;
+    if pair % 256 < fall { run } else { pair }
 }
 
-// Settles the node at place i of the list. Parts 4 and 5 are lent on together.
+// Settles the node of number k, which falls at `place` of `count` steps and lies `down` above its parent, of number `up`, which is settled:
+// stores its word. The fall from its parent merges into the parent's running fall if both fall at the same step, and wins only if it is
+// more than the parent's largest residue.
+fn settle(count: usize, place: usize, down: u32, k: usize, up: usize, held: &mut [u32])
+    requires { ⌜ Settleable count place down k up (now held) ⌝ }
+    ensures { λ _. ⌜ now (held .exit) ≡ settled-at count place down k up (now (held .entry)) ⌝ }
+{
+    if count <= place {
+        held[k] = 0;
+        return;
+    }
+    let above = held[up];
+    let fall = down + shared(above / 65536, place as u32);
+    let run = (place as u32) * 256 + fall;
+    let pair = better(fall, run, above % 65536);
+    held[k] = run * 65536 + pair;
+}
+
+// Settles the node at place i of the order of closing. Part 3 is lent on.
 fn visit(picture: &[u8], steps: &[u32], table: &[usize; 256], n: usize, i: usize, ws: &mut [u32])
-    requires { ⌜ Visitable n (now picture) (now steps) (now ws) i ⌝ }
+    requires { ⌜ (i < n) × Visitable n (now picture) (now steps) (now ws) (closed-of n (now ws) i) ⌝ }
     requires { ⌜ now table ≡ small-places (now steps) ⌝ }
-    ensures { λ _. ⌜ Settled-to n (now (picture .entry)) (now (steps .entry)) (take (3 * n) (now (ws .entry))) (now (ws .exit)) (i + 1) ⌝ }
+    ensures { λ _. ⌜ now (ws .exit)
+        ≡ visited-at n (now (picture .entry)) (now (steps .entry)) (now (ws .entry)) (closed-of n (now (ws .entry)) i) ⌝ }
 {
-    let r = ws[2 * n + i] as usize;
-    let a = ws[n + r];
-    let parent = ws[r] as usize;
-    let k = places::place(steps, table, r, parent, a);
-    settle(picture, steps.len(), k, r, parent, &mut ws[3 * n..5 * n]);
+    let k = ws[n + i] as usize;
+    let low = ws[3 * n + 3 * k] as usize;
+    let up = ws[3 * n + 3 * k + 1] as usize;
+    let a = ws[3 * n + 3 * k + 2];
+    let above = ws[3 * n + 3 * up] as usize;
+    let place = places::place(steps, table, low, above, a);
+    let down = (picture[low] - picture[above]) as u32;
+    settle(steps.len(), place, down, k, up, &mut ws[2 * n..3 * n]);
 }
 
-// Every node, from dark to bright.
+// Every node, the last closed first.
 fn settle_nodes(
     picture: &[u8],
     steps: &[u32],
@@ -64,41 +72,34 @@ fn settle_nodes(
     nodes: usize,
     ws: &mut [u32],
 )
-    requires { ⌜ Given n nodes (now picture) (now steps) (take (3 * n) (now ws)) × length (now ws) ≡ words-a-pixel * n ⌝ }
+    requires { ⌜ Given n nodes (now picture) (now steps) (now ws) ⌝ }
     requires { ⌜ now table ≡ small-places (now steps) ⌝ }
-    ensures { λ _. ⌜ Settled-to n (now (picture .entry)) (now (steps .entry)) (take (3 * n) (now (ws .entry))) (now (ws .exit)) nodes ⌝ }
+    ensures { λ _. ⌜ Settled-from n nodes (now (picture .entry)) (now (steps .entry)) (now (ws .entry)) (now (ws .exit)) 0 ⌝ }
 {
-    let mut i: usize = 0;
-    while i < nodes {
+    let mut i = nodes;
+    while i > 0 {
+        i -= 1;
         visit(picture, steps, table, n, i, ws);
-        i += 1;
     }
 }
 
-// The representative of p: p itself if its attribute word is not 0, else what its parent word leads to.
-fn holder_of(p: usize, parent: u32, a: u32) -> usize
-    ensures { λ r. ⌜ r ≡ holder p parent a ⌝ }
-{
-    if a == 0 { parent as usize } else { p }
-}
-
-// Every pixel takes both entries from the pair that its representative holds.
+// Every pixel takes both entries from the pair of its node. Rounded up, the pair over 256 is the index, 0 for no residue.
 fn spread(n: usize, ws: &[u32], residues: &mut [u8], indices: &mut [u16])
     requires { ⌜ Spreadable n (now ws) (length (now residues)) (length (now indices)) ⌝ }
     ensures residues { λ _. ⌜ now (residues .exit) ≡ table n (λ (q : ℕ). pair-at n (now (ws .entry)) q % 256) ⌝ }
-    ensures indices { λ _. ⌜ now (indices .exit) ≡ table n (λ (q : ℕ). pair-at n (now (ws .entry)) q / 256) ⌝ }
+    ensures indices { λ _. ⌜ now (indices .exit) ≡ table n (λ (q : ℕ). index-in (pair-at n (now (ws .entry)) q)) ⌝ }
 {
     let mut p: usize = 0;
     while p < n {
-        let r = holder_of(p, ws[p], ws[n + p]);
-        let pair = ws[4 * n + r];
+        let k = ws[p] as usize;
+        let pair = ws[2 * n + k] % 65536;
         residues[p] = (pair % 256) as u8;
-        indices[p] = (pair / 256) as u16;
+        indices[p] = ((pair + 255) / 256) as u16;
         p += 1;
     }
 }
 
-// Both maps, from the record in the workspace and the representatives by rising level in its third part.
+// Both maps, from the words of the nodes. Part 3 is free for the pass over them.
 pub fn write_maps(
     picture: &[u8],
     steps: &[u32],

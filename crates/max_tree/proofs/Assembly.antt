@@ -1,87 +1,70 @@
--- The passes one after the other: what holds after each, and that it is what the next asks. Assumes nothing.
-use Prim.Native.Nat.{ℕ, _+_, _≤_, _<_, _^_}
-use mathlib.Core.Bool.{Bool, true, false, cond}
+-- The flood and the passes over the words of the nodes: what holds after each, and that it is what the next asks.
+use Prim.Native.Nat.{ℕ, _+_, _<_}
 use mathlib.Core.List.{List}
 use mathlib.Core.Path.{_≡_, refl, sym, ap, _∙_}
-use native.Mathlib.Nat.{mod-lt, mul-comm, div-lt-iff-lt-mul}
+use native.Mathlib.Nat.{le-refl, mod-lt, mul-comm, div-lt-iff-lt-mul}
 use native.Mathlib.Omega.{arith}
-use lib.Dec.{eqb, ltb}
-use lib.ListN.{getD, length}
-use borrow.Author.Tests.{eqb-true}
-use Rattle.sets.specs.Sets.{count}
-use Rattle.sets.proofs.Laws.{count-le, count-ext}
-use Rattle.sets.proofs.Gather.{gather-ext}
-use Rattle.connected.specs.Component.{Adjacency}
+use lib.Dec.{eqb}
+use lib.ListN.{length}
+use borrow.Author.Tests.{eqb-true, eq-eqb}
+use Rattle.sets.specs.Sets.{member}
+use Rattle.sets.specs.Gather.{first-in}
+use Rattle.sets.proofs.Gather.{gather-ext, first-in-le, first-in-holds}
+use Rattle.connected.specs.Component.{Adjacency, Symmetric}
+use Rattle.opening.specs.Node.{node}
+use Rattle.opening.proofs.Components.{level-self}
 use Rattle.opening.proofs.Levels.{cond-case}
 use Rattle.grid.specs.Pixels.{pixels}
 use Rattle.grid.specs.Neighbours.{adjacent}
-use Rattle.grid.specs.Attributes.{side}
+use Rattle.grid.specs.Attributes.{side, attribute}
 use Rattle.grid.specs.declared.Grid.{Grid}
 use Rattle.grid.proofs.Attributes.{adjacent-symmetric}
-use Rattle.tree.specs.Forest.{Forest}
-use Rattle.tree.specs.Tree.{parents, parent-word, is-representative, number-of-nodes}
-use Rattle.tree.proofs.Record.{representative-lowest, parent-word-lowest, number-lowest}
-use Rattle.tree.proofs.Relabel.{relabel-root, relabel-forest, relabel-owned}
+use Rattle.tree.specs.Forest.{Forest, node-root, lowest}
+use Rattle.tree.specs.Tree.{parent-representative}
+use Rattle.tree.proofs.Record.{representative-lowest, parent-lowest}
 use Rattle.causes.specs.Bounds.{longest-side}
 use Rattle.causes.proofs.Laws.{Bounded, bounded}
-use Rattle.sets.proofs.Tables.{table-long, table-read}
-use Rattle.levels.specs.Levels.{grey, entry-sum, starts-of, darker}
-use Rattle.levels.specs.Workspace.{parent-of, order-of, Sized}
-use Rattle.levels.proofs.Tables.{sum-counts}
-use Rattle.flood.specs.Calls.{Floodable, FloodedBy}
-use Rattle.accumulators.specs.Accumulators.{nothing, single, combined, gathered, Short}
-use Rattle.branches.specs.Branches.{owned}
-use Rattle.listing.specs.Listing.{Listed}
-use Rattle.listing.proofs.Listing.{listed-same}
-use Rattle.parts.specs.Parts.{node-word, first-of, held-of, root-of, lowest-of, lowest-own-pixel, node-level, roots}
-use Rattle.parts.proofs.Roots.{root-same, root-within, lowest-same, node-level-same}
-use Rattle.own_pixels.specs.OwnPixels.{blanked, Blank, Owned}
-use Rattle.own_pixels.proofs.Blanking.{Blank-words, blank-words}
-use Rattle.representatives.specs.Representatives.{Representable, Represented}
-use Rattle.descendants.specs.Pouring.{Own-held}
-use Rattle.max_tree.specs.Building.{Buildable}
-use Rattle.max_tree.proofs.FloodForest.{flooded-forest, forest-same}
+use Rattle.levels.specs.Levels.{grey}
+use Rattle.levels.specs.Workspace.{Sized, number-at, lowest-of, up-of, held-of}
+use Rattle.flooding.specs.Numbers.{parent-by}
+use Rattle.flood.specs.Calls.{Floodable, NumberedBy}
+use Rattle.accumulators.specs.Accumulators.{nothing, single, combined, measured, gathered, Short}
+use Rattle.accumulators.proofs.Accumulators.{single-small, gathered-ends, measured-attribute}
+use Rattle.branches.specs.Branches.{branch}
+use Rattle.branches.proofs.Branches.{node-branch}
+use Rattle.numbers.specs.Nodes.{NodesOf}
+use Rattle.numbers.proofs.Same.{order-same, numbered-same}
+use Rattle.numbers.proofs.Numbers.{number-forest, parent-first, number-root, number-lowest}
+use Rattle.own_pixels.specs.OwnPixels.{numbered, Countable, Owned}
+use Rattle.descendants.specs.Pouring.{Pourable, Poured}
+use Rattle.max_tree.specs.Building.{Buildable, Noded}
 
--- the flood leaves the parent words of a forest
-pub record Flood-left (grid : Grid) (picture ws : List ℕ) : Type 0 where
+-- the picture fits the grid, and the workspace the picture
+pub record Fitted (grid : Grid) (picture ws : List ℕ) : Type 0 where
   pub fits : Bounded (grid .width) (grid .height)
   pub bytes : length picture ≡ pixels grid
   pub greys : (x : ℕ) → grey picture x < 256
   pub sized : Sized (length picture) ws
-  pub forest : Forest (length picture) (adjacent grid) (grey picture) (parent-of ws)
 
--- the pass over the own pixels leaves zeros in part 2, the lowest own pixel of each node in part 4 and the accumulator of its own pixels in
--- part 5, and answers how many nodes each level has
-pub record Own-left (grid : Grid) (a : ℕ) (picture ws counts : List ℕ) : Type 0 where
-  pub flood : Flood-left grid picture ws
-  pub zero : (q : ℕ) → q < length picture → node-word (length picture) ws q ≡ 0
-  pub first :
-      (q : ℕ) → q < length picture
-      → first-of (length picture) ws (root-of picture ws q) ≡ lowest-of picture ws (root-of picture ws q)
-  pub held :
-      (r : ℕ) → r < length picture
-      → held-of (length picture) ws r
-      ≡ gathered a (length picture) (single grid a) (owned (grey picture) (parent-of ws) r)
-  pub nodes : (l : ℕ) → l < 256 → getD counts l 0 ≡ count (length picture) (λ (q : ℕ). eqb (node-level picture ws q) l)
+-- the flood leaves the numbers of m nodes
+pub record Flood-left (grid : Grid) (picture ws : List ℕ) (m : ℕ) : Type 0 where
+  pub fitted : Fitted grid picture ws
+  pub numbers : NumberedBy grid picture ws m
 
--- the pass that writes the representatives leaves the parent words of the record in part 1, the accumulators of the own pixels in part 2
--- and the list of the representatives in part 3, and answers the number of nodes
-pub record Record-left (grid : Grid) (a : ℕ) (picture ws : List ℕ) (nodes : ℕ) : Type 0 where
-  pub flood : Flood-left grid picture ws
-  pub parents : (q : ℕ) → q < length picture → getD ws q 0 ≡ parent-word (length picture) (adjacent grid) (grey picture) q
-  pub stands :
-      (q : ℕ) → q < length picture
-      → roots picture ws q ≡ is-representative (length picture) (adjacent grid) (grey picture) q
-  pub own : Own-held a picture ws (single grid a)
-  pub others : (q : ℕ) → q < length picture → roots picture ws q ≡ false → node-word (length picture) ws q ≡ 0
-  pub order :
-      Listed
-      (length picture)
-      nodes
-      (grey picture)
-      (is-representative (length picture) (adjacent grid) (grey picture))
-      (order-of (length picture) ws)
-  pub number : nodes ≡ number-of-nodes (length picture) (adjacent grid) (grey picture)
+-- the pass over the own pixels leaves the lowest own pixel of each node and the accumulator of its own pixels
+pub record Own-left (grid : Grid) (a : ℕ) (picture ws : List ℕ) (m : ℕ) : Type 0 where
+  pub flood : Flood-left grid picture ws m
+  pub lowest : (k : ℕ) → k < m → lowest-of (length picture) ws k ≡ first-in (length picture) (numbered ws k)
+  pub held : (k : ℕ) → k < m → held-of (length picture) ws k ≡ gathered a (length picture) (single grid a) (numbered ws k)
+
+pub resized : {grid : Grid} {picture ws ws' : List ℕ} → length ws' ≡ length ws → Fitted grid picture ws → Fitted grid picture ws'
+resized long F =
+    record {
+      fits = F .fits;
+      bytes = F .bytes;
+      greys = F .greys;
+      sized = record { words = long ∙ F .sized .words; small = F .sized .small };
+    }
 
 module _ {grid : Grid} {picture ws : List ℕ} (B : Buildable grid picture ws) where
   fits : Bounded (grid .width) (grid .height)
@@ -90,21 +73,18 @@ module _ {grid : Grid} {picture ws : List ℕ} (B : Buildable grid picture ws) w
   pub sized : {ws' : List ℕ} → length ws' ≡ length ws → Sized (length picture) ws'
   sized long = record { words = long ∙ omega (arith, B .bytes, B .words); small = omega (arith, B .bytes, fits .small) }
 
+  pub rebuildable : {ws' : List ℕ} → length ws' ≡ length ws → Buildable grid picture ws'
+  rebuildable long = record { sides = B .sides; bytes = B .bytes; words = long ∙ B .words }
+
   pub flood-asked : Floodable grid picture ws
   flood-asked = record { sized = sized refl; whole = B .bytes; wide = fits .wide; high = fits .high }
 
-  pub flood-left : {ws' : List ℕ} → ((x : ℕ) → grey picture x < 256) → length ws' ≡ length ws → FloodedBy grid picture ws' → Flood-left grid picture ws'
-  flood-left {ws'} greys long left =
-      record {
-        fits = fits;
-        bytes = B .bytes;
-        greys = greys;
-        sized = sized long;
-        forest = flooded-forest (length picture) (adjacent grid) (adjacent-symmetric grid) (grey picture) (parent-of ws') left;
-      }
+  pub flood-left : {ws' : List ℕ} {m : ℕ} → ((x : ℕ) → grey picture x < 256) → length ws' ≡ length ws → NumberedBy grid picture ws' m → Flood-left grid picture ws' m
+  flood-left greys long left =
+      record { fitted = record { fits = fits; bytes = B .bytes; greys = greys; sized = sized long }; numbers = left }
 
 -- rows and columns are short
-pub short : {grid : Grid} {picture ws : List ℕ} → Flood-left grid picture ws → (a q : ℕ) → q < length picture → Short grid a q
+pub short : {grid : Grid} {picture ws : List ℕ} → Fitted grid picture ws → (a q : ℕ) → q < length picture → Short grid a q
 unfolding side
 short {grid} F a q b =
     let w : ℕ = grid .width in
@@ -115,155 +95,162 @@ short {grid} F a q b =
     (λ e. omega (arith, div-lt-iff-lt-mul {k = w} {x = q} {y = h} (F .fits .wide) .1 (omega (arith, F .bytes, mul-comm w h)), F .fits .not-higher))
     (λ e. omega (arith, mod-lt q (F .fits .wide), F .fits .not-wider))
 
--- parts 2, 4 and 5 are blank
-module _ {grid : Grid} {a : ℕ} {picture ws ws₁ : List ℕ} (F : Flood-left grid picture ws) (is : ws₁ ≡ blanked (length picture) a ws) where
-  blank : Blank-words (length picture) a ws ws₁
-  blank = blank-words (length picture) a ws ws₁ (F .sized .words) is
-
-  pub own-asked : Blank grid a picture ws₁
+-- the pass over the own pixels
+module _ {grid : Grid} {a : ℕ} {picture ws : List ℕ} {m : ℕ} (F : Flood-left grid picture ws m) where
+  pub own-asked : Countable grid a (length picture) m ws
   own-asked =
       record {
-        sized = record { words = blank .words ∙ F .sized .words; small = F .sized .small };
-        bytes = F .greys;
-        wide = F .fits .wide;
-        short = short F a;
-        within = λ q b. rw (blank .parents q b) (F .forest .within q b);
-        unnoted = blank .unnoted;
-        blank = blank .blank;
+        sized = F .fitted .sized;
+        few = F .numbers .few;
+        wide = F .fitted .fits .wide;
+        short = short (F .fitted) a;
+        within = F .numbers .within;
+        some = λ k b. (F .numbers .first k, F .numbers .first-within k b, F .numbers .first-own k b);
       }
 
-  -- after the pass over the own pixels
-  module _ {ws' counts : List ℕ} (O : Owned grid a picture ws₁ ws' counts) where
-    same-parent : (q : ℕ) → q < length picture → parent-of ws' q ≡ parent-of ws₁ q
-    same-parent q b = O .kept q (omega arith)
+  module _ {ws' : List ℕ} (O : Owned grid a (length picture) m ws ws') where
+    same-number : (q : ℕ) → q < length picture → number-at ws' q ≡ number-at ws q
+    same-number q b = O .kept .before q (omega arith)
 
-    same-root : (q : ℕ) → q < length picture → root-of picture ws' q ≡ root-of picture ws₁ q
-    same-root q b = root-same picture ws' ws₁ q (same-parent q b)
+    same-own : (k x : ℕ) → x < length picture → numbered ws k x ≡ numbered ws' k x
+    same-own k x b = ap (λ (i : ℕ). eqb i k) (sym (same-number x b))
 
-    pub own-left : Own-left grid a picture ws' counts
+    pub own-left : Own-left grid a picture ws' m
     own-left =
         record {
           flood =
               record {
-                fits = F .fits;
-                bytes = F .bytes;
-                greys = F .greys;
-                sized = record { words = O .words ∙ blank .words ∙ F .sized .words; small = F .sized .small };
-                forest =
-                    forest-same
-                    (length picture)
-                    (adjacent grid)
-                    (grey picture)
-                    (parent-of ws)
-                    (parent-of ws')
-                    (λ q b. same-parent q b ∙ blank .parents q b)
-                    (F .forest);
+                fitted = resized (O .kept .words) (F .fitted);
+                numbers =
+                    numbered-same
+                    same-number
+                    (O .kept .ups)
+                    (λ i b. O .kept .before (length picture + i) (omega (arith, F .numbers .few)))
+                    (F .numbers);
               };
-          zero = λ q b. O .kept (length picture + q) (omega arith) ∙ blank .zero q b;
-          first =
-              λ q b.
-              ap (first-of (length picture) ws') (same-root q b)
-              ∙ O .first q b
-              ∙ ap (lowest-of picture ws₁) (sym (same-root q b))
-              ∙ lowest-same picture ws₁ ws' same-parent (root-of picture ws' q);
-          held =
-              λ r b.
-              O .held r b
-              ∙ gather-ext
-              (length picture)
-              (combined a)
-              (nothing a)
-              (single grid a)
-              (owned (grey picture) (parent-of ws₁) r)
-              (owned (grey picture) (parent-of ws') r)
-              (λ x c. ap (λ (k : ℕ). eqb k r) (sym (same-root x c)));
-          nodes =
-              λ l b.
-              table-read _ (O .counted) l b
-              ∙ count-ext
-              (length picture)
-              (λ (q : ℕ). eqb (node-level picture ws₁ q) l)
-              (λ (q : ℕ). eqb (node-level picture ws' q) l)
-              (λ q c. ap (λ (k : ℕ). eqb k l) (sym (node-level-same picture ws₁ ws' same-parent q c)));
+          lowest = λ k b. O .lowest k b ∙ gather-ext (length picture) _ _ _ (numbered ws k) (numbered ws' k) (same-own k);
+          held = λ k b.
+              O .held k b
+              ∙ gather-ext (length picture) (combined a) (nothing a) (single grid a) (numbered ws k) (numbered ws' k) (same-own k);
         }
 
-module _ {grid : Grid} {a : ℕ} {picture ws counts : List ℕ} (O : Own-left grid a picture ws counts) where
-  abbrev n : ℕ
-  n = length picture
-
-  abbrev adj : Adjacency
-  adj = adjacent grid
-
-  abbrev g : ℕ → ℕ
-  g = grey picture
-
-  forest : Forest n adj g (parent-of ws)
-  forest = O .flood .forest
-
-  starts-at : (l : ℕ) → l ≤ 256 → entry-sum counts l ≡ darker n (node-level picture ws) l
-  starts-at l b = sum-counts (node-level picture ws) counts n (O .nodes) l b
-
-  pub starts-asked : entry-sum counts 256 < 2 ^ 64
-  starts-asked =
-      omega (arith, starts-at 256 (omega arith), count-le n (λ (q : ℕ). ltb (node-level picture ws q) 256), O .flood .sized .small)
-
-  pub record-asked : {starts : List ℕ} → starts ≡ starts-of counts → Representable picture ws starts
-  record-asked is =
+-- the pass over the descendants
+module _ {grid : Grid} {a : ℕ} {picture ws : List ℕ} {m : ℕ} (O : Own-left grid a picture ws m) where
+  abbrev pub pour-asked : Pourable a picture ws m
+  pour-asked =
       record {
-        sized = O .flood .sized;
-        bytes = O .flood .greys;
-        within = forest .within;
-        root = forest .root;
-        first = O .first;
-        zero = O .zero;
-        wide = table-long _ is;
-        run-starts = λ l b. table-read _ is l b ∙ starts-at l (omega arith);
+        sized = O .flood .fitted .sized;
+        adj = adjacent grid;
+        symm = adjacent-symmetric grid;
+        numbered = O .flood .numbers;
+        value = single grid a;
+        small = λ q b. single-small grid a q (short (O .flood .fitted) a q b);
+        ends = λ s q b i e. gathered-ends grid a (length picture) s q b i (short (O .flood .fitted) a) e;
+        own = O .held;
       }
 
-  -- after the record is written
-  module _ {ws' : List ℕ} {nodes : ℕ} (R : Represented picture ws ws' nodes) where
-    new-root : (q : ℕ) → q < n → roots picture ws' q ≡ lowest-own-pixel picture ws q
-    new-root q b =
-        ap (λ (k : ℕ). eqb k q) (relabel-root n adj (adjacent-symmetric grid) g (parent-of ws) forest (parent-of ws') (R .parents) q b)
+  -- after it the words of the nodes are whole
+  module _ {ws' : List ℕ} (P : Poured a picture ws ws' m) where
+    abbrev n : ℕ
+    n = length picture
 
-    represents : (q : ℕ) → q < n → is-representative n adj g q ≡ lowest-own-pixel picture ws q
-    unfolding is-representative
-    represents q b = ap (λ (k : ℕ). eqb k q) (representative-lowest n adj (adjacent-symmetric grid) g (parent-of ws) forest q b)
+    abbrev adj : Adjacency
+    adj = adjacent grid
 
-    own-held : Own-held a picture ws' (single grid a)
-    own-held r b e =
-        let s : ℕ = root-of picture ws r in
-        let first : lowest-own-pixel picture ws r ≡ true = sym (new-root r b) ∙ e in
-        R .held r b
-        ∙ ap (λ (t : Bool). cond t (held-of n ws s) 0) first
-        ∙ O .held s (root-within picture ws r b (forest .within r b))
-        ∙ gather-ext
-        n
-        (combined a)
-        (nothing a)
-        (single grid a)
-        (owned g (parent-of ws) s)
-        (owned g (parent-of ws') r)
-        (λ x c.
-        sym (relabel-owned n adj (adjacent-symmetric grid) g (parent-of ws) forest (parent-of ws') (R .parents) r x b c (eqb-true (lowest-of picture ws s) r first)))
+    abbrev symm : Symmetric adj
+    symm = adjacent-symmetric grid
 
-    pub record-left : Record-left grid a picture ws' nodes
-    record-left =
+    abbrev g : ℕ → ℕ
+    g = grey picture
+
+    abbrev N : NumberedBy grid picture ws m
+    N = O .flood .numbers
+
+    abbrev par : ℕ → ℕ
+    par = parent-by (N .first) (number-at ws) (up-of n ws)
+
+    forest : Forest n adj g par
+    forest = number-forest N symm
+
+    kept-number : (q : ℕ) → q < n → number-at ws' q ≡ number-at ws q
+    kept-number q b = P .before q (omega arith)
+
+    -- the lowest own pixel that is noted for a number is that of its node
+    lowest-is : (k : ℕ) → k < m → lowest-of n ws' k ≡ first-in n (numbered ws k)
+    lowest-is k b = P .lowests k b ∙ O .lowest k b
+
+    lowest-within : (k : ℕ) → k < m → first-in n (numbered ws k) < n
+    lowest-within k b =
+        omega (
+          arith,
+          N .first-within k b,
+          first-in-le n (numbered ws k) (N .first k) (N .first-within k b) (eq-eqb (number-at ws (N .first k)) k (N .first-own k b)),
+        )
+
+    lowest-numbered : (k : ℕ) → k < m → number-at ws (first-in n (numbered ws k)) ≡ k
+    lowest-numbered k b =
+        eqb-true (number-at ws (first-in n (numbered ws k))) k (first-in-holds n (numbered ws k) (lowest-within k b))
+
+    lowest-first : (k : ℕ) → k < m → lowest-of n ws' k ≡ lowest n g par (N .first k)
+    lowest-first k b = lowest-is k b ∙ sym (number-lowest N k b)
+
+    lowest-root : (q : ℕ) → q < n → lowest-of n ws' (number-at ws q) ≡ lowest n g par (node-root g par q)
+    lowest-root q b =
+        lowest-first (number-at ws q) (N .within q b) ∙ ap (lowest n g par) (sym (number-root N q b))
+
+    -- the representative p of the node k
+    module _ (k : ℕ) (b : k < m) (p : ℕ) (c : p < n) (own : number-at ws p ≡ k) where
+      parent-is : lowest-of n ws' (up-of n ws' k) ≡ parent-representative n adj g p
+      parent-is =
+          ap (lowest-of n ws') (P .ups k b)
+          ∙ lowest-first (up-of n ws k) (N .up-within k b)
+          ∙ ap (lowest n g par) (sym (ap par (number-root N p c ∙ ap (N .first) own) ∙ parent-first N k b))
+          ∙ sym (parent-lowest n adj symm g par forest p c)
+
+      attribute-is : held-of n ws' k ≡ attribute grid a (member (node n adj g p))
+      attribute-is =
+          P .measures pour-asked k b
+          ∙ ap
+          (measured a)
+          (gather-ext
+          n
+          (combined a)
+          (nothing a)
+          (single grid a)
+          (branch g par (N .first k))
+          (member (node n adj g p))
+          (λ x d.
+          sym
+          (node-branch n adj symm g par forest p x c d
+          ∙ ap (λ (r : ℕ). branch g par r x) (number-root N p c ∙ ap (N .first) own))))
+          ∙ measured-attribute
+          grid
+          a
+          n
+          (member (node n adj g p))
+          p
+          c
+          (level-self n adj g (g p) p c (le-refl (g p)))
+          (short (O .flood .fitted) a)
+          (O .flood .fitted .bytes)
+
+    nodes-left : NodesOf grid a picture ws' m
+    nodes-left =
         record {
-          flood =
-              record {
-                fits = O .flood .fits;
-                bytes = O .flood .bytes;
-                greys = O .flood .greys;
-                sized = record { words = R .words ∙ O .flood .sized .words; small = O .flood .sized .small };
-                forest = relabel-forest n adj (adjacent-symmetric grid) g (parent-of ws) forest (parent-of ws') (R .parents);
-              };
-          parents = λ q b. R .parents q b ∙ sym (parent-word-lowest n adj (adjacent-symmetric grid) g (parent-of ws) forest q b);
-          stands = λ q b. new-root q b ∙ sym (represents q b);
-          own = own-held;
-          others =
-              λ q b e.
-              R .held q b ∙ ap (λ (t : Bool). cond t (held-of n ws (root-of picture ws q)) 0) (sym (new-root q b) ∙ e);
-          order = listed-same n nodes g (lowest-own-pixel picture ws) (is-representative n adj g) (order-of n ws') (order-of n ws') represents (λ i b. refl) (R .order);
-          number = R .number ∙ sym (number-lowest n adj (adjacent-symmetric grid) g (parent-of ws) forest);
+          few = N .few;
+          within = λ q b. rw (kept-number q b) (N .within q b);
+          low-within = λ k b. rw (lowest-is k b) (lowest-within k b);
+          low-own = λ k b.
+              rw (lowest-is k b) (kept-number (first-in n (numbered ws k)) (lowest-within k b) ∙ lowest-numbered k b);
+          ups = λ k b. rw (P .ups k b) (N .up-within k b);
+          representatives = λ q b.
+              ap (lowest-of n ws') (kept-number q b) ∙ lowest-root q b ∙ sym (representative-lowest n adj symm g par forest q b);
+          parents = λ k b.
+              rw (lowest-is k b) (parent-is k b (first-in n (numbered ws k)) (lowest-within k b) (lowest-numbered k b));
+          attributes = λ k b.
+              rw (lowest-is k b) (attribute-is k b (first-in n (numbered ws k)) (lowest-within k b) (lowest-numbered k b));
+          order = order-same (P .ups) (λ i b. P .before (n + i) (omega (arith, N .few))) (N .order);
         }
+
+    pub noded : Buildable grid picture ws' → Noded grid a picture ws' m
+    noded B = record { buildable = B; nodes = nodes-left }

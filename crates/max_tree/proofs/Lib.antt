@@ -1,4 +1,3 @@
-pub mod FloodForest
 pub mod Assembly
 pub mod Ordering
 pub mod Answering

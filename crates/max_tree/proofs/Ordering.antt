@@ -1,18 +1,18 @@
--- The end of the passes: the pass over the descendants is given what it asks, and what it leaves is the record. Assumes nothing.
+-- The end of the passes: the record is written from the words of the nodes and its representatives are sorted, which is what building leaves.
+-- Assumes nothing.
 use Prim.Native.Nat.{ℕ, _+_, _*_, _≤_, _<_}
 use mathlib.Core.Bool.{Bool, true, false, cond}
 use mathlib.Core.List.{List, _++_}
-use mathlib.Core.Logic.{⊎-elim}
 use mathlib.Core.Path.{_≡_, refl, sym, ap, subst, _∙_}
 use native.Mathlib.Nat.{le-refl}
 use native.Mathlib.Omega.{arith}
+use lib.Dec.{eqb}
 use lib.ListN.{getD, length, take, drop, length-drop}
 use lib.Seq.{length-take-le, take-add, getD-take, getD-drop}
 use borrow.Author.Tests.{eqb-true}
 use Rattle.sets.specs.Sets.{member, table}
-use Rattle.sets.proofs.Tests.{decided}
-use Rattle.sets.proofs.Laws.{count-le}
-use Rattle.sets.proofs.Gather.{gather-ext}
+use Rattle.sets.proofs.Laws.{count-le, count-ext}
+use Rattle.sets.proofs.Tables.{as-table}
 use Rattle.connected.specs.Component.{Adjacency}
 use Rattle.opening.specs.Node.{node}
 use Rattle.opening.proofs.Components.{level-self}
@@ -20,21 +20,18 @@ use Rattle.grid.specs.Neighbours.{adjacent}
 use Rattle.grid.specs.Attributes.{attribute}
 use Rattle.grid.specs.declared.Grid.{Grid}
 use Rattle.grid.proofs.Attributes.{adjacent-symmetric}
-use Rattle.tree.specs.Tree.{parents, attributes, parent-word, attribute-word, is-representative, number-of-nodes}
+use Rattle.tree.specs.Tree.{representative, parents, attributes, parent-representative, parent-word, attribute-word, is-representative, number-of-nodes}
+use Rattle.tree.proofs.Representatives.{representative-le}
 use Rattle.causes.specs.Bounds.{most-pixels, words-a-pixel}
-use Rattle.sets.proofs.Tables.{as-table}
 use Rattle.levels.specs.Levels.{grey}
-use Rattle.levels.specs.Workspace.{parent-of, order-of}
-use Rattle.accumulators.specs.Accumulators.{nothing, single, combined, measured}
-use Rattle.accumulators.proofs.Accumulators.{single-small, gathered-ends, measured-attribute}
-use Rattle.branches.specs.Branches.{branch}
-use Rattle.branches.proofs.Branches.{node-branch}
+use Rattle.levels.specs.Workspace.{Sized, order-of, number-at, lowest-of, up-of, held-of}
+use Rattle.numbers.specs.Nodes.{NodesOf}
 use Rattle.listing.specs.Listing.{Listed}
 use Rattle.listing.proofs.Listing.{listed-same}
-use Rattle.parts.specs.Parts.{node-word, root-of, roots}
-use Rattle.descendants.specs.Pouring.{Pourable, Poured}
-use Rattle.max_tree.specs.Building.{Ordered}
-use Rattle.max_tree.proofs.Assembly.{Record-left, short}
+use Rattle.representatives.specs.Representatives.{Representable, is-lowest, new-parent, new-attribute, Represented}
+use Rattle.sorting.specs.Sorting.{Sortable, Sorted}
+use Rattle.max_tree.specs.Building.{Noded, Ordered}
+use Rattle.max_tree.proofs.Assembly.{sized}
 
 -- a list that holds two tables, one after the other
 two-tables : (n : ℕ) (f g : ℕ → ℕ) (xs : List ℕ) → 2 * n ≤ length xs → ((q : ℕ) → q < n → getD xs q 0 ≡ f q) → ((q : ℕ) → q < n → getD xs (n + q) 0 ≡ g q) → take (2 * n) xs ≡ table n f ++ table n g
@@ -47,7 +44,13 @@ two-tables n f g xs size first second =
     as-table g (length-take-le n (drop n xs) half) (λ q b. getD-take n (drop n xs) q 0 b ∙ getD-drop n xs q 0 ∙ second q b) in
     rw (both, take-add n n xs, one, two) refl
 
-module _ {grid : Grid} {a : ℕ} {picture ws : List ℕ} {nodes : ℕ} (R : Record-left grid a picture ws nodes) where
+-- the same choice, where what is chosen is the same
+chosen : (t : Bool) (x y x' y' : ℕ) → (t ≡ true → x ≡ x') → y ≡ y' → cond t x y ≡ cond t x' y'
+chosen true x y x' y' e f = e refl
+chosen false x y x' y' e f = f
+
+-- the words of the nodes
+module _ {grid : Grid} {a : ℕ} {picture ws : List ℕ} {m : ℕ} (D : Noded grid a picture ws m) where
   abbrev n : ℕ
   n = length picture
 
@@ -57,102 +60,126 @@ module _ {grid : Grid} {a : ℕ} {picture ws : List ℕ} {nodes : ℕ} (R : Reco
   abbrev g : ℕ → ℕ
   g = grey picture
 
-  few : nodes ≤ n
-  unfolding number-of-nodes
-  few = omega (arith, R .number, count-le n (is-representative n adj g))
+  abbrev N : NodesOf grid a picture ws m
+  N = D .nodes
 
-  pub nodes-small : nodes ≤ most-pixels
-  nodes-small = omega (arith, few, R .flood .sized .small)
+  fitting : Sized n ws
+  fitting = sized (D .buildable) refl
 
-  pub pour-asked : Pourable a picture ws nodes
-  pour-asked =
+  represents : (q : ℕ) → q < n → is-representative n adj g q ≡ is-lowest n ws q
+  unfolding is-representative
+  represents q b = ap (λ (k : ℕ). eqb k q) (sym (N .representatives q b))
+
+  self : (q : ℕ) → is-lowest n ws q ≡ true → lowest-of n ws (number-at ws q) ≡ q
+  self q t = eqb-true (lowest-of n ws (number-at ws q)) q t
+
+  parent-is : (q : ℕ) → q < n → new-parent n ws q ≡ parent-word n adj g q
+  unfolding parent-word
+  parent-is q b =
+      chosen
+      (is-lowest n ws q)
+      (lowest-of n ws (up-of n ws (number-at ws q)))
+      (lowest-of n ws (number-at ws q))
+      (parent-representative n adj g q)
+      (representative n adj g q)
+      (λ t. N .parents (number-at ws q) (N .within q b) ∙ ap (parent-representative n adj g) (self q t))
+      (N .representatives q b)
+      ∙ ap
+      (λ (t : Bool). cond t (parent-representative n adj g q) (representative n adj g q))
+      (sym (represents q b))
+
+  attribute-is : (q : ℕ) → q < n → new-attribute n ws q ≡ attribute-word n adj (attribute grid a) g q
+  unfolding attribute-word
+  attribute-is q b =
+      chosen
+      (is-lowest n ws q)
+      (held-of n ws (number-at ws q))
+      0
+      (attribute grid a (member (node n adj g q)))
+      0
+      (λ t. N .attributes (number-at ws q) (N .within q b) ∙ ap (λ (p : ℕ). attribute grid a (member (node n adj g p))) (self q t))
+      refl
+      ∙ ap (λ (t : Bool). cond t (attribute grid a (member (node n adj g q))) 0) (sym (represents q b))
+
+  own-le : (q : ℕ) → q < n → representative n adj g q ≤ q
+  own-le q b =
+      representative-le n adj (adjacent-symmetric grid) g q q (level-self n adj g (g q) q b (le-refl (g q))) refl
+
+  pub record-asked : Representable n ws
+  record-asked =
       record {
-        sized = R .flood .sized;
-        adj = adj;
-        symm = adjacent-symmetric grid;
-        forest = R .flood .forest;
-        few = few;
-        order = listed-same n nodes g (is-representative n adj g) (roots picture ws) (order-of n ws) (order-of n ws) (R .stands) (λ i b. refl) (R .order);
-        value = single grid a;
-        small = λ q b. single-small grid a q (short (R .flood) a q b);
-        ends = λ s q b i e. gathered-ends grid a n s q b i (short (R .flood) a) e;
-        own = R .own;
+        sized = fitting;
+        nodes = m;
+        few = N .few;
+        within = N .within;
+        low = λ q b. rw (N .representatives q b) (own-le q b);
+        ups = N .ups;
       }
 
-  -- after the pass over the descendants
-  module _ {ws' : List ℕ} (P : Poured a picture ws ws') where
-    self : (q : ℕ) → q < n → member (node n adj g q) q ≡ true
-    self q b = level-self n adj g (g q) q b (le-refl (g q))
+  -- after the record is written
+  module _ {ws₁ : List ℕ} {nodes : ℕ} (R : Represented n ws ws₁ nodes) where
+    few : nodes ≤ n
+    few = omega (arith, R .number, count-le n (is-lowest n ws))
 
-    attribute-node : (q : ℕ) → q < n → roots picture ws q ≡ true → node-word n ws' q ≡ attribute grid a (member (node n adj g q))
-    attribute-node q b e =
-        P .measures (single grid a) (R .own) q b e
-        ∙ ap
-        (measured a)
-        (gather-ext
-        n
-        (combined a)
-        (nothing a)
-        (single grid a)
-        (branch g (parent-of ws) q)
-        (member (node n adj g q))
-        (λ x c.
-        sym
-        (node-branch n adj (adjacent-symmetric grid) g (parent-of ws) (R .flood .forest) q x b c
-        ∙ ap (λ (r : ℕ). branch g (parent-of ws) r x) (eqb-true (root-of picture ws q) q e))))
-        ∙ measured-attribute grid a n (member (node n adj g q)) q b (self q b) (short (R .flood) a) (R .flood .bytes)
+    pub nodes-small : nodes ≤ most-pixels
+    nodes-small = omega (arith, few, fitting .small)
 
-    -- the word of a node, where q is its representative or not
-    by-root : (q : ℕ) → q < n → (t : Bool) → roots picture ws q ≡ t → attribute-word n adj (attribute grid a) g q ≡ cond t (attribute grid a (member (node n adj g q))) 0
-    unfolding attribute-word
-    by-root q b t e = ap (λ (k : Bool). cond k (attribute grid a (member (node n adj g q))) 0) (sym (R .stands q b) ∙ e)
+    pub sort-asked : ((x : ℕ) → grey picture x < 256) → Sortable picture ws₁ nodes
+    sort-asked bytes =
+        record {
+          sized = sized (D .buildable) (R .words);
+          bytes = bytes;
+          few = few;
+          pixels = is-lowest n ws;
+          order = R .order;
+        }
 
-    attributes-left : (q : ℕ) → q < n → node-word n ws' q ≡ attribute-word n adj (attribute grid a) g q
-    attributes-left q b =
-        ⊎-elim
-        (λ t. attribute-node q b t ∙ sym (by-root q b true t))
-        (λ t. P .others q b t ∙ R .others q b t ∙ sym (by-root q b false t))
-        (decided (roots picture ws q))
+    -- after its representatives are sorted
+    module _ {ws₂ : List ℕ} (S : Sorted picture ws₁ ws₂ nodes) where
+      words-left : length ws₂ ≡ words-a-pixel * n
+      words-left = S .words ∙ R .words ∙ fitting .words
 
-    words-left : length ws' ≡ words-a-pixel * n
-    words-left = P .words ∙ R .flood .sized .words
+      tree-left : take (2 * n) ws₂ ≡ parents n adj g ++ attributes n adj (attribute grid a) g
+      unfolding parents attributes
+      tree-left =
+          two-tables
+          n
+          (parent-word n adj g)
+          (attribute-word n adj (attribute grid a) g)
+          ws₂
+          (omega (arith, words-left))
+          (λ q b. S .before q (omega arith) ∙ R .parents q b ∙ parent-is q b)
+          (λ q b. S .before (n + q) (omega arith) ∙ R .attributes q b ∙ attribute-is q b)
 
-    tree-left : take (2 * n) ws' ≡ parents n adj g ++ attributes n adj (attribute grid a) g
-    unfolding parents attributes
-    tree-left =
-        two-tables
-        n
-        (parent-word n adj g)
-        (attribute-word n adj (attribute grid a) g)
-        ws'
-        (omega (arith, words-left))
-        (λ q b. P .kept q b ∙ R .parents q b)
-        attributes-left
+      order-left : Listed n nodes g (is-representative n adj g) (order-of n ws₂)
+      order-left =
+          listed-same
+          n
+          nodes
+          g
+          (is-lowest n ws)
+          (is-representative n adj g)
+          (order-of n ws₂)
+          (order-of n ws₂)
+          represents
+          (λ i b. refl)
+          (S .order (is-lowest n ws) (R .order))
 
-    order-left : Listed n nodes g (is-representative n adj g) (order-of n ws')
-    order-left =
-        listed-same
-        n
-        nodes
-        g
-        (is-representative n adj g)
-        (is-representative n adj g)
-        (order-of n ws)
-        (order-of n ws')
-        (λ q b. refl)
-        (λ i b. P .rest (2 * n + i) (omega arith))
-        (R .order)
+      number-left : nodes ≡ number-of-nodes n adj g
+      unfolding number-of-nodes
+      number-left =
+          R .number ∙ count-ext n (is-lowest n ws) (is-representative n adj g) (λ q b. sym (represents q b))
 
-    -- the bytes of the picture are the pixels of the grid
-    pub ordered : Ordered grid a picture ws' nodes
-    ordered =
-        let (words, tree, order, number) =
-        subst
-        (λ (m : ℕ).
-        (length ws' ≡ words-a-pixel * m)
-        × (take (2 * m) ws' ≡ parents m adj g ++ attributes m adj (attribute grid a) g)
-        × Listed m nodes g (is-representative m adj g) (order-of m ws')
-        × (nodes ≡ number-of-nodes m adj g))
-        (R .flood .bytes)
-        (words-left, tree-left, order-left, R .number) in
-        record { words = words; tree = tree; order = order; number = number }
+      -- the bytes of the picture are the pixels of the grid
+      pub ordered : Ordered grid a picture ws₂ nodes
+      ordered =
+          let (words, tree, order, number) =
+          subst
+          (λ (k : ℕ).
+          (length ws₂ ≡ words-a-pixel * k)
+          × (take (2 * k) ws₂ ≡ parents k adj g ++ attributes k adj (attribute grid a) g)
+          × Listed k nodes g (is-representative k adj g) (order-of k ws₂)
+          × (nodes ≡ number-of-nodes k adj g))
+          (D .buildable .bytes)
+          (words-left, tree-left, order-left, number-left) in
+          record { words = words; tree = tree; order = order; number = number }

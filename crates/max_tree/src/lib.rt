@@ -1,25 +1,32 @@
 // The max-tree of a picture: the record that is kept of it in a workspace, part 1 the parents, part 2 the attributes,
-// parts 3 to 6 scratch. The flood leaves parent words only, and the passes make the record of them.
+// parts 3 to 6 scratch. The flood gives the nodes numbers, and the passes make the record of the words of the nodes.
 ghost use mathlib.Core.List.{_++_};
 ghost use mathlib.Core.Path.{_≡_};
 ghost use Prim.Native.Nat.{_*_};
 ghost use lib.ListN.{take, replicate};
 ghost use Rattle.calls.specs.Calls.{build-call, built, built-numbers, build-workspace};
 ghost use Rattle.levels.specs.Workspace.{Sized};
-ghost use Rattle.max_tree.specs.Building.{Buildable, Ordered, Whole};
+ghost use Rattle.max_tree.specs.Building.{Buildable, Noded, Recordable, Recorded, Whole};
 use grid::Grid;
 
-// The record in parts 1 and 2, with the representatives by rising level in part 3. Answers the number of nodes.
-pub fn build_ordered(picture: &[u8], grid: Grid, attribute: u32, workspace: &mut [u32]) -> u32
+// The words of the nodes: each has a number, its lowest own pixel, its parent's number and its attribute. Answers how many there are.
+pub fn build_nodes(picture: &[u8], grid: Grid, attribute: u32, workspace: &mut [u32]) -> usize
     requires { ⌜ Buildable grid (now picture) (now workspace) ⌝ }
-    ensures { λ r. ⌜ Ordered grid attribute (now (picture .entry)) (now (workspace .exit)) r ⌝ }
+    ensures { λ r. ⌜ Noded grid attribute (now (picture .entry)) (now (workspace .exit)) r ⌝ }
 {
-    flood::flood(picture, grid, workspace);
-    own_pixels::blank_parts(picture.len(), attribute, workspace);
-    let counts = own_pixels::own_pixels(picture, grid, attribute, workspace);
-    let starts = levels::run_starts(counts);
-    let nodes = representatives::write_record(picture, starts, workspace);
+    let nodes = flood::flood(picture, grid, workspace);
+    own_pixels::own_pixels(picture.len(), grid, attribute, nodes, workspace);
     descendants::descendants(picture, attribute, nodes, workspace);
+    nodes
+}
+
+// The record in parts 1 and 2 from the words of the nodes, with the representatives by rising level in part 3. Answers the number of nodes.
+pub fn write_ordered(picture: &[u8], workspace: &mut [u32]) -> u32
+    requires { ⌜ Recordable (now picture) (now workspace) ⌝ }
+    ensures { λ r. ⌜ Recorded (now (picture .entry)) (now (workspace .entry)) (now (workspace .exit)) r ⌝ }
+{
+    let nodes = representatives::write_record(picture.len(), workspace);
+    sorting::sort_by_level(picture, nodes, workspace);
     nodes as u32
 }
 
@@ -39,7 +46,8 @@ pub fn build_record(picture: &[u8], grid: Grid, attribute: u32, workspace: &mut 
     requires { ⌜ Buildable grid (now picture) (now workspace) ⌝ }
     ensures { λ r. ⌜ Whole grid attribute (now (picture .entry)) (now (workspace .exit)) r ⌝ }
 {
-    let nodes = build_ordered(picture, grid, attribute, workspace);
+    build_nodes(picture, grid, attribute, workspace);
+    let nodes = write_ordered(picture, workspace);
     clear_scratch(picture.len(), workspace);
     nodes
 }

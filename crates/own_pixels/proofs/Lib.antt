@@ -1,2 +1,1 @@
-pub mod Blanking
 pub mod OwnPixels

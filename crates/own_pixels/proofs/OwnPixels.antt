@@ -1,441 +1,362 @@
--- The pass over the own pixels, in order of position: what holds when the pixels below i have been taken, one more of them, and the
--- end. Assumes nothing.
-use Prim.Native.Nat.{ℕ, _+_, _*_, _-_, _≤_, _<_}
-use mathlib.Core.Bool.{Bool, true, false, cond, _&&_, _||_}
-use mathlib.Core.List.{List}
-use mathlib.Core.Logic.{⊎-elim}
+-- The pass over the own pixels, from the last position to the first: the words of a node after a store to them, the words of the nodes as
+-- they are lent and come back, what holds when the pixels from q on have been taken, and one more of them. Assumes nothing.
+use Prim.Native.Nat.{ℕ, _+_, _*_, _-_, _≤_, _<_, min}
+use mathlib.Core.Bool.{Bool, true, false, _&&_, _||_}
+use mathlib.Core.List.{List, _++_}
 use mathlib.Core.Path.{_≡_, refl, sym, ap, subst, _∙_}
 use native.Mathlib.Nat.{le-antisymm}
 use native.Mathlib.Omega.{arith}
-use lib.Dec.{eqb, ltb}
-use lib.ListN.{getD, length, set, length-set, replicate, length-replicate, getD-replicate}
-use lib.Seq.{getD-set-same, getD-set-other}
-use borrow.Rule.Slice.PartMut.{put-same}
-use borrow.Author.Tests.{eqb-true, eqb-false, eq-eqb, ne-eqb, ltb-true, lt-ltb, le-ltb}
-use Rattle.sets.specs.Sets.{Positions, count}
-use Rattle.sets.proofs.Tests.{decided, same-truth, and-left, and-right, and-both, or-cases, or-left, or-right}
-use Rattle.sets.proofs.Laws.{count-le}
-use Rattle.sets.proofs.Gather.{gather-ext, gather-none, first-in-le}
+use lib.Dec.{eqb, leb}
+use lib.ListN.{getD, length, set, take, length-set}
+use lib.Seq.{getD-set-same, getD-set-other, getD-take, take-at, drop-at, length-take-le}
+use borrow.Author.Tests.{leb-true, le-leb, lt-leb, eqb-true, eq-eqb, ne-eqb}
+use borrow.Rule.Slice.PartMut.{postOf, same-len-mid, take-put}
+use Rattle.sets.specs.Sets.{Positions}
+use Rattle.sets.specs.Gather.{first-in}
+use Rattle.sets.proofs.Tests.{and-left, and-right, and-both, or-right, same-truth}
+use Rattle.sets.proofs.Gather.{gather-ext, gather-none, first-in-le, first-in-holds}
 use Rattle.grid.specs.declared.Grid.{Grid}
-use Rattle.tree.specs.Forest.{lowest}
-use Rattle.tree.proofs.Relabel.{low-le, low-root}
-use Rattle.sets.proofs.Tables.{as-table}
-use Rattle.levels.specs.Levels.{grey}
-use Rattle.levels.specs.Workspace.{parent-of}
-use Rattle.levels.proofs.Counts.{equal-or-not, bit, off}
-use Rattle.levels.proofs.Tables.{count-next, counts-more}
+use Rattle.causes.specs.Bounds.{words-a-pixel}
+use Rattle.causes.proofs.Lists.{length-two}
+use Rattle.levels.specs.Tables.{Changed}
+use Rattle.levels.specs.Workspace.{number-at, lowest-of, up-of, held-of}
+use Rattle.levels.proofs.Counts.{by-cases, equal-or-not}
 use Rattle.accumulators.specs.Accumulators.{nothing, single, combined, gathered, Small}
-use Rattle.branches.specs.Branches.{owned}
-use Rattle.parts.specs.Parts.{first-of, held-of, root-of, lowest-of, lowest-own-pixel, node-level}
-use Rattle.own_pixels.specs.OwnPixels.{Blank, Noting, noted-at, counted-at, Owned}
-use Rattle.accumulators.proofs.Accumulators.{single-small, gathered-small, bound-small, gathered-with}
-use Rattle.parts.proofs.Roots.{root-within}
-use Rattle.parts.proofs.Parts.{lent, returned, lent-long, lent-read, stored-in}
+use Rattle.accumulators.proofs.Accumulators.{gathered-with, single-small, gathered-small, bound-small, bound-one}
+use Rattle.parts.proofs.Parts.{lent, returned, lent-long, lent-read, read-one, read-two, read-else}
+use Rattle.own_pixels.specs.OwnPixels.{numbered, Countable, Blank, Gatherable, gathered-at, Owned}
 
--- the positions below i with the label r
-abbrev pub below : (ℕ → ℕ) → ℕ → ℕ → Positions
-below label i r x = ltb x i && eqb (label x) r
+-- the words of the nodes, and the three of the node k among them
+abbrev nodes : ℕ → List ℕ → List ℕ
+nodes n ws = lent (3 * n) (6 * n) ws
 
-module _ (label : ℕ → ℕ) (i : ℕ) where
-  below-last : (r : ℕ) → below label i r i ≡ false
-  below-last r = ap (λ (t : Bool). t && eqb (label i) r) (le-ltb i i (omega arith))
+abbrev lowest-in : List ℕ → ℕ → ℕ
+lowest-in words k = getD words (3 * k) 0
 
-  below-less : (r x : ℕ) → below label (i + 1) r x ≡ true → (i ≡ x → ⊥) → below label i r x ≡ true
-  below-less r x e ne =
-      and-both
-      (ltb x i)
-      (eqb (label x) r)
-      (lt-ltb x i (omega (arith, ltb-true x (i + 1) (and-left (ltb x (i + 1)) (eqb (label x) r) e))))
-      (and-right (ltb x (i + 1)) (eqb (label x) r) e)
+abbrev up-in : List ℕ → ℕ → ℕ
+up-in words k = getD words (3 * k + 1) 0
 
-  below-still : (r x : ℕ) → below label i r x ≡ true → below label (i + 1) r x ≡ true
-  below-still r x e =
-      and-both
-      (ltb x (i + 1))
-      (eqb (label x) r)
-      (lt-ltb x (i + 1) (omega (arith, ltb-true x i (and-left (ltb x i) (eqb (label x) r) e))))
-      (and-right (ltb x i) (eqb (label x) r) e)
+abbrev held-in : List ℕ → ℕ → ℕ
+held-in words k = getD words (3 * k + 2) 0
 
-  below-more : (r x : ℕ) → label i ≡ r → below label (i + 1) r x ≡ (below label i r x || eqb i x)
-  below-more r x is =
-      same-truth
-      (below label (i + 1) r x)
-      (below label i r x || eqb i x)
-      (λ e.
-      ⊎-elim
-      (λ z. or-right (below label i r x) (eqb i x) (eq-eqb i x z))
-      (λ ne. or-left (below label i r x) (eqb i x) (below-less r x e ne))
-      (equal-or-not i x))
-      (λ e.
-      ⊎-elim
-      (below-still r x)
-      (λ f.
-      let z : i ≡ x = eqb-true i x f in
-      and-both (ltb x (i + 1)) (eqb (label x) r) (lt-ltb x (i + 1) (omega arith)) (eq-eqb (label x) r (ap label (sym z) ∙ is)))
-      (or-cases (below label i r x) (eqb i x) e))
+-- x and y become the lowest own pixel and the accumulator of the node k
+record Node-stored (m : ℕ) (words words' : List ℕ) (k x y : ℕ) : Type 0 where
+  long : length words' ≡ length words
+  ups : (j : ℕ) → up-in words' j ≡ up-in words j
+  lowest : Changed m (lowest-in words) (lowest-in words') k x
+  held : Changed m (held-in words) (held-in words') k y
 
-  below-other : (r x : ℕ) → (label i ≡ r → ⊥) → below label (i + 1) r x ≡ below label i r x
-  below-other r x ne =
-      same-truth
-      (below label (i + 1) r x)
-      (below label i r x)
-      (λ e.
-      below-less r x e (λ z. ne (ap label z ∙ eqb-true (label x) r (and-right (ltb x (i + 1)) (eqb (label x) r) e))))
-      (below-still r x)
+node-stored : (m : ℕ) (words : List ℕ) (k x y : ℕ) → 3 * k + 2 < length words → Node-stored m words (set (set words (3 * k) x) (3 * k + 2) y) k x y
+node-stored m words k x y b =
+    let here : 3 * k < length words = omega arith in
+    let apart : 3 * k ≡ 3 * k + 2 → ⊥ = λ z. omega arith in
+    let else : (j : ℕ) → (j ≡ 3 * k → ⊥) → (j ≡ 3 * k + 2 → ⊥) → getD (set (set words (3 * k) x) (3 * k + 2) y) j 0 ≡ getD words j 0 =
+    read-else words (3 * k) (3 * k + 2) x y here b apart in
+    record {
+      long = length-two words (3 * k) x (3 * k + 2) y;
+      ups = λ j. else (3 * j + 1) (λ z. omega arith) (λ z. omega arith);
+      lowest =
+          record {
+            here = read-one words (3 * k) (3 * k + 2) x y here b apart;
+            there = λ j c ne. else (3 * j) (λ z. ne (omega arith)) (λ z. omega arith);
+          };
+      held =
+          record {
+            here = read-two words (3 * k) (3 * k + 2) x y here b apart;
+            there = λ j c ne. else (3 * j + 2) (λ z. omega arith) (λ z. ne (omega arith));
+          };
+    }
 
--- the pixel noted for the node of x is one of its own, at or before x
-pub record First (picture ws₀ ws : List ℕ) (x : ℕ) : Type 0 where
-  pub low : first-of (length picture) ws (root-of picture ws₀ x) ≤ x
-  pub own : root-of picture ws₀ (first-of (length picture) ws (root-of picture ws₀ x)) ≡ root-of picture ws₀ x
+-- what one own pixel more leaves of the words of the nodes
+pub gathered-one : (a q k own : ℕ) (words : List ℕ) (held : ℕ) → held ≡ combined a (held-in words k) own → set (set words (3 * k) q) (3 * k + 2) held ≡ gathered-at a q k own words
+gathered-one a q k own words held e = rw e refl
 
-pub record Owning (grid : Grid) (a : ℕ) (picture ws₀ ws counts : List ℕ) (i : ℕ) : Type 0 where
-  pub top : i ≤ length picture
-  pub words : length ws ≡ length ws₀
-  pub kept : (k : ℕ) → k < 3 * length picture → getD ws k 0 ≡ getD ws₀ k 0
-  pub first : (x : ℕ) → x < i → First picture ws₀ ws x
-  pub none :
-      (r : ℕ) → r < length picture → ((x : ℕ) → x < i → root-of picture ws₀ x ≡ r → ⊥)
-      → first-of (length picture) ws r ≡ length picture
-  pub held :
-      (r : ℕ) → r < length picture
-      → held-of (length picture) ws r ≡ gathered a (length picture) (single grid a) (below (root-of picture ws₀) i r)
-  pub wide : length counts ≡ 256
-  pub nodes : (l : ℕ) → l < 256 → getD counts l 0 ≡ count i (λ (q : ℕ). eqb (node-level picture ws₀ q) l)
+-- no node is blank at first, one more after its store, and all at last
+pub blank-none : (a : ℕ) (words : List ℕ) → Blank a 0 words words
+blank-none a words = record { long = refl; ups = λ k. refl; held = λ k b. absurd (omega arith) }
 
--- what is noted of one pixel
-pub noted-met : (picture : List ℕ) (q r : ℕ) (part counts : List ℕ) → (getD part r 0 ≡ length picture → ⊥) → (part ≡ noted-at picture q r part) × (counts ≡ counted-at picture q r part counts)
-noted-met picture q r part counts ne = rw (ne-eqb (getD part r 0) (length picture) ne) (refl, refl)
+pub blank-more : {a k v : ℕ} {words₀ words : List ℕ} → 3 * k + 2 < length words → Blank a k words₀ words → v ≡ nothing a → Blank a (k + 1) words₀ (set words (3 * k + 2) v)
+blank-more {a} {k} {v} {words₀} {words} b B is =
+    record {
+      long = length-set words (3 * k + 2) v ∙ B .long;
+      ups = λ j. getD-set-other words (3 * k + 2) (3 * j + 1) v 0 (λ z. omega arith) ∙ B .ups j;
+      held =
+          λ j c.
+          by-cases
+          (equal-or-not j k)
+          (λ e. rw e (getD-set-same words (3 * k + 2) v 0 b ∙ is))
+          (λ ne. getD-set-other words (3 * k + 2) (3 * j + 2) v 0 (λ z. ne (omega arith)) ∙ B .held j (omega arith));
+    }
 
-pub noted-unmet : (picture : List ℕ) (q r : ℕ) (part counts : List ℕ) → getD part r 0 ≡ length picture → (set part r q ≡ noted-at picture q r part) × (set counts (grey picture q) (getD counts (grey picture q) 0 + 1) ≡ counted-at picture q r part counts)
-noted-unmet picture q r part counts e = rw (eq-eqb (getD part r 0) (length picture) e) (refl, refl)
+pub blank-end : {a m k : ℕ} {words₀ words : List ℕ} → m ≤ k → Blank a k words₀ words → Blank a m words₀ words
+blank-end all B = record { long = B .long; ups = B .ups; held = λ j b. B .held j (omega arith) }
 
-module _ {grid : Grid} {a : ℕ} {picture ws₀ : List ℕ} (start : Blank grid a picture ws₀) where
-  abbrev n : ℕ
-  n = length picture
+-- the positions from q on that have the number k
+abbrev from : (ℕ → ℕ) → ℕ → ℕ → Positions
+from num q k x = leb q x && eqb (num x) k
 
-  pub owning-none : Owning grid a picture ws₀ ws₀ (replicate 256 0) 0
-  unfolding count
+from-in : (num : ℕ → ℕ) (q k x : ℕ) → q ≤ x → num x ≡ k → from num q k x ≡ true
+from-in num q k x l e = and-both (leb q x) (eqb (num x) k) (le-leb q x l) (eq-eqb (num x) k e)
+
+from-out : (num : ℕ → ℕ) (q k x : ℕ) → x < q → from num q k x ≡ false
+from-out num q k x l = rw (lt-leb q x l) refl
+
+from-first : (num : ℕ → ℕ) (k x : ℕ) → from num 0 k x ≡ eqb (num x) k
+from-first num k x = rw (le-leb 0 x (omega arith)) refl
+
+or-no : (b : Bool) → b ≡ (b || false)
+or-no true = refl
+or-no false = refl
+
+-- one position more, q: only the set of its number grows
+from-same : (num : ℕ → ℕ) (q k x : ℕ) → (q ≡ x → num x ≡ k → ⊥) → from num q k x ≡ from num (q + 1) k x
+from-same num q k x ne =
+    same-truth
+    (from num q k x)
+    (from num (q + 1) k x)
+    (λ t.
+    let l : q ≤ x = leb-true q x (and-left (leb q x) (eqb (num x) k) t) in
+    let e : num x ≡ k = eqb-true (num x) k (and-right (leb q x) (eqb (num x) k) t) in
+    from-in num (q + 1) k x (by-cases (equal-or-not q x) (λ z. absurd (ne z e)) (λ z. omega arith)) e)
+    (λ t.
+    from-in
+    num
+    q
+    k
+    x
+    (omega (arith, leb-true (q + 1) x (and-left (leb (q + 1) x) (eqb (num x) k) t)))
+    (eqb-true (num x) k (and-right (leb (q + 1) x) (eqb (num x) k) t)))
+
+from-more : (num : ℕ → ℕ) (q k x : ℕ) → num q ≡ k → from num q k x ≡ (from num (q + 1) k x || eqb q x)
+from-more num q k x e =
+    by-cases
+    (equal-or-not q x)
+    (λ z.
+    from-in num q k x (omega arith) (ap num (sym z) ∙ e)
+    ∙ sym (or-right (from num (q + 1) k x) (eqb q x) (eq-eqb q x z)))
+    (λ ne. from-same num q k x (λ z f. ne z) ∙ rw (ne-eqb q x ne) (or-no (from num (q + 1) k x)))
+
+-- the word of each number holds what is gathered of its positions after q. One position more: its value is joined to the word of its number,
+-- the others stay
+gathered-next : (a n m q : ℕ) (v num w w' : ℕ → ℕ) → q < n → ((k : ℕ) → k < m → w k ≡ gathered a n v (from num (q + 1) k)) → num q < m → Changed m w w' (num q) (combined a (w (num q)) (v q)) → (k : ℕ) → k < m → w' k ≡ gathered a n v (from num q k)
+gathered-next a n m q v num w w' b each here C k c =
+    by-cases
+    (equal-or-not k (num q))
+    (λ e.
+    rw e
+    (C .here
+    ∙ ap (λ (x : ℕ). combined a x (v q)) (each (num q) here)
+    ∙ sym
+    (gathered-with
+    a
+    n
+    v
+    (from num (q + 1) (num q))
+    (from num q (num q))
+    q
+    b
+    (from-out num (q + 1) (num q) q (omega arith))
+    (λ x d. from-more num q (num q) x refl))))
+    (λ ne.
+    C .there k c ne
+    ∙ each k c
+    ∙ gather-ext n (combined a) (nothing a) v (from num (q + 1) k) (from num q k) (λ x d. sym (from-same num q k x (λ z e. ne (sym e ∙ ap num (sym z))))))
+
+-- the word of each number that has a position from q on is one of its positions, and at most each of those
+abbrev Least : ℕ → ℕ → (ℕ → ℕ) → (ℕ → ℕ) → ℕ → Type 0
+Least n m num w q = (k x : ℕ) → k < m → q ≤ x → x < n → num x ≡ k → (w k ≤ x) × (num (w k) ≡ k)
+
+least-next : (n m q : ℕ) (num w w' : ℕ → ℕ) → Least n m num w (q + 1) → Changed m w w' (num q) q → Least n m num w' q
+least-next n m q num w w' L C k x c l d e =
+    by-cases
+    (equal-or-not k (num q))
+    (λ z. rw (ap w' z ∙ C .here) (l, sym z))
+    (λ ne. rw (C .there k c ne) (L k x c (by-cases (equal-or-not q x) (λ z. absurd (ne (sym e ∙ ap num (sym z)))) (λ z. omega arith)) d e))
+
+-- at last the word of a number that has a position is the first
+least-first : (n m : ℕ) (num w : ℕ → ℕ) → Least n m num w 0 → (k x : ℕ) → k < m → x < n → num x ≡ k → w k ≡ first-in n (λ (y : ℕ). eqb (num y) k)
+least-first n m num w L k x c b e =
+    let s : Positions = λ (y : ℕ). eqb (num y) k in
+    let p : (w k ≤ x) × (num (w k) ≡ k) = L k x c (omega arith) b e in
+    let low : first-in n s ≤ w k = first-in-le n s (w k) (omega (arith, p .0)) (eq-eqb (num (w k)) k (p .1)) in
+    let f : first-in n s < n = omega (arith, p .0) in
+    le-antisymm (L k (first-in n s) c (omega arith) f (eqb-true (num (first-in n s)) k (first-in-holds n s f)) .0) low
+
+-- the words of the nodes as they are lent
+module _ (n : ℕ) (ws : List ℕ) (long : length ws ≡ words-a-pixel * n) where
+  high : 6 * n ≤ length ws
+  high = omega arith
+
+  nodes-long : length (nodes n ws) ≡ 3 * n
+  nodes-long = lent-long (3 * n) (6 * n) ws high ∙ omega arith
+
+  lowest-read : (k : ℕ) → k < n → lowest-in (nodes n ws) k ≡ lowest-of n ws k
+  lowest-read k b = lent-read (3 * n) (6 * n) ws high (3 * k) (omega arith)
+
+  up-read : (k : ℕ) → k < n → up-in (nodes n ws) k ≡ up-of n ws k
+  up-read k b = lent-read (3 * n) (6 * n) ws high (3 * k + 1) (omega arith) ∙ ap (λ (i : ℕ). getD ws i 0) (omega arith)
+
+  held-read : (k : ℕ) → k < n → held-in (nodes n ws) k ≡ held-of n ws k
+  held-read k b = lent-read (3 * n) (6 * n) ws high (3 * k + 2) (omega arith) ∙ ap (λ (i : ℕ). getD ws i 0) (omega arith)
+
+  -- and the workspace, when they come back as `words`
+  module _ (words : List ℕ) (same : length words ≡ length (nodes n ws)) where
+    abbrev back : List ℕ
+    back = returned (3 * n) (6 * n) ws words
+
+    low : 3 * n ≤ length ws
+    low = omega arith
+
+    back-long : length back ≡ length ws
+    back-long = same-len-mid (3 * n) (6 * n - 3 * n) ws words same
+
+    back-before : (k : ℕ) → k < 3 * n → getD back k 0 ≡ getD ws k 0
+    back-before k b =
+        sym (getD-take (3 * n) back k 0 b)
+        ∙ ap (λ (l : List ℕ). getD l k 0) (take-put (3 * n) (6 * n - 3 * n) ws words low)
+        ∙ getD-take (3 * n) ws k 0 b
+
+    back-nodes : nodes n back ≡ words
+    back-nodes =
+        let rest : List ℕ = postOf (3 * n) (6 * n - 3 * n) ws in
+        ap (take (6 * n - 3 * n)) (drop-at (take (3 * n) ws) (words ++ rest) (3 * n) (length-take-le (3 * n) ws low))
+        ∙ take-at words rest (6 * n - 3 * n) (same ∙ lent-long (3 * n) (6 * n) ws high)
+
+-- the pixels from q on are taken
+pub record Owning (grid : Grid) (a n m : ℕ) (ws₀ ws : List ℕ) (q : ℕ) : Type 0 where
+  pub top : q ≤ n
+  pub long : length ws ≡ length ws₀
+  pub before : (k : ℕ) → k < 3 * n → getD ws k 0 ≡ getD ws₀ k 0
+  pub ups : (k : ℕ) → up-in (nodes n ws) k ≡ up-in (nodes n ws₀) k
+  pub lowest : Least n m (number-at ws₀) (lowest-in (nodes n ws)) q
+  pub held : (k : ℕ) → k < m → held-in (nodes n ws) k ≡ gathered a n (single grid a) (from (number-at ws₀) q k)
+
+-- the pass over a workspace whose nodes `blank` has left as `words`
+module _ {grid : Grid} {a n m : ℕ} {ws words : List ℕ} (start : Countable grid a n m ws) (blank : Blank a m (nodes n ws) words) where
+  abbrev ws₀ : List ℕ
+  ws₀ = returned (3 * n) (6 * n) ws words
+
+  blanked : nodes n ws₀ ≡ words
+  blanked = back-nodes n ws (start .sized .words) words (blank .long)
+
+  same-number : (q : ℕ) → q < n → number-at ws₀ q ≡ number-at ws q
+  same-number q b = back-before n ws (start .sized .words) words (blank .long) q (omega arith)
+
+  pub owning-none : Owning grid a n m ws₀ ws₀ n
   owning-none =
       record {
         top = omega arith;
-        words = refl;
-        kept = λ k b. refl;
-        first = λ x b. absurd (omega arith);
-        none = λ r b free. start .unnoted r b;
+        long = refl;
+        before = λ k b. refl;
+        ups = λ k. refl;
+        lowest = λ k x c l d e. absurd (omega arith);
         held =
-            λ r b.
-            start .blank r b
-            ∙ sym
-            (gather-none
-            (length picture)
-            (combined a)
-            (nothing a)
-            (single grid a)
-            (below (root-of picture ws₀) 0 r)
-            (λ q c. ap (λ (t : Bool). t && eqb (root-of picture ws₀ q) r) (le-ltb q 0 (omega arith))));
-        wide = length-replicate {A = ℕ} 256 0;
-        nodes = λ l b. getD-replicate 256 l 0 0 b;
+            λ k c.
+            ap (λ (l : List ℕ). held-in l k) blanked
+            ∙ blank .held k c
+            ∙ sym (gather-none n (combined a) (nothing a) (single grid a) (from (number-at ws₀) n k) (λ x b. from-out (number-at ws₀) n k x b));
       }
 
-  owning-small : (ws counts : List ℕ) (i r : ℕ) → Owning grid a picture ws₀ ws counts i → r < length picture → Small (held-of (length picture) ws r)
-  owning-small ws counts i r O b =
-      rw
-      (O .held r b)
-      (bound-small
-      a
-      (length picture)
-      (gathered a (length picture) (single grid a) (below (root-of picture ws₀) i r))
-      (start .sized .small)
-      (gathered-small a (length picture) (single grid a) (below (root-of picture ws₀) i r) (λ q c. single-small grid a q (start .short q c))))
+  owning-long : {ws' : List ℕ} {q : ℕ} → Owning grid a n m ws₀ ws' q → length ws' ≡ length ws
+  owning-long O = O .long ∙ back-long n ws (start .sized .words) words (blank .long)
 
-  -- one pixel more, i, with the node root r: first its accumulator, then the note
-  module _ {ws counts : List ℕ} {i r : ℕ} (b : i < length picture) (O : Owning grid a picture ws₀ ws counts i) (is : r ≡ root-of picture ws₀ i) where
-    in-range : r < length picture
-    in-range = rw is (root-within picture ws₀ i b (start .within i b))
+  -- one pixel more
+  module _ {ws' : List ℕ} {r : ℕ} (left : 0 < r) (taken : Owning grid a n m ws₀ ws' r) where
+    abbrev q : ℕ
+    q = r - 1
 
-    first-place : 3 * length picture + r < length ws
-    first-place = omega (arith, in-range, O .words, start .sized .words)
+    O : Owning grid a n m ws₀ ws' (q + 1)
+    O = subst (λ (i : ℕ). Owning grid a n m ws₀ ws' i) (omega arith) taken
 
-    held-place : 4 * length picture + r < length ws
-    held-place = omega (arith, in-range, O .words, start .sized .words)
+    abbrev k : ℕ
+    k = number-at ws₀ q
 
-    abbrev y : ℕ
-    y = combined a (held-of (length picture) ws r) (single grid a i)
+    b : q < n
+    b = omega (arith, O .top)
 
-    abbrev ws₁ : List ℕ
-    ws₁ = set ws (4 * length picture + r) y
+    number-is : number-at ws' q ≡ k
+    number-is = O .before q (omega (arith, b))
 
-    -- part 5 is lent and comes back with the accumulator
-    high : 5 * n ≤ length ws
-    high = omega (arith, O .words, start .sized .words)
+    within : k < m
+    within = omega (arith, same-number q b, start .within q b)
 
-    pub gather-asked : (r < length (lent (4 * n) (5 * n) ws)) × Small (getD (lent (4 * n) (5 * n) ws) r 0)
-    gather-asked = (
-      rw (lent-long (4 * n) (5 * n) ws high) (omega (arith, in-range)),
-      rw (lent-read (4 * n) (5 * n) ws high r (omega (arith, in-range))) (owning-small ws counts i r O in-range),
-    )
+    sized : length ws' ≡ words-a-pixel * n
+    sized = owning-long O ∙ start .sized .words
 
-    pub gathered-one : {part : List ℕ} {own : ℕ} → own ≡ single grid a i → part ≡ set (lent (4 * n) (5 * n) ws) r (combined a (getD (lent (4 * n) (5 * n) ws) r 0) own) → returned (4 * n) (5 * n) ws part ≡ ws₁
-    gathered-one e f =
-        let inside : 4 * n + r < 5 * n = omega (arith, in-range) in
-        rw (f, e, lent-read (4 * n) (5 * n) ws high r inside) (stored-in (4 * n) (5 * n) ws high r y inside)
+    room : 3 * k + 2 < length (nodes n ws')
+    room = omega (arith, nodes-long n ws' sized, within, start .few)
 
-    -- then part 4 is lent
-    high₁ : 4 * n ≤ length ws₁
-    high₁ = rw (length-set ws (4 * n + r) y) (omega (arith, O .words, start .sized .words))
+    own-small : Small (single grid a q)
+    own-small = bound-one a (single grid a q) (single-small grid a q (start .short q b))
 
-    noted-read : getD (lent (3 * n) (4 * n) ws₁) r 0 ≡ first-of n ws₁ r
-    noted-read = lent-read (3 * n) (4 * n) ws₁ high₁ r (omega (arith, in-range))
-
-    first-same : (s : ℕ) → s < length picture → first-of (length picture) ws₁ s ≡ first-of (length picture) ws s
-    first-same s c = getD-set-other ws (4 * length picture + r) (3 * length picture + s) y 0 (λ z. omega arith)
-
-    pub note-asked : {l : List ℕ} → l ≡ ws₁ → Noting picture i r (lent (3 * n) (4 * n) l) counts
-    note-asked e =
-        record {
-          words = rw (e, lent-long (3 * n) (4 * n) ws₁ high₁) (omega arith);
-          small = start .sized .small;
-          within = b;
-          root = in-range;
-          level = start .bytes i;
-          wide = O .wide;
-          few = omega (arith, O .nodes (grey picture i) (start .bytes i), count-le i (λ (q : ℕ). eqb (node-level picture ws₀ q) (grey picture i)));
-        }
-
-    held-more : (s : ℕ) → s < length picture → held-of (length picture) ws₁ s ≡ gathered a (length picture) (single grid a) (below (root-of picture ws₀) (i + 1) s)
-    held-more s c =
-        ⊎-elim
-        (λ z.
-        ap (held-of (length picture) ws₁) z
-        ∙ getD-set-same ws (4 * length picture + r) y 0 held-place
-        ∙ ap (λ (k : ℕ). combined a k (single grid a i)) (O .held r in-range)
-        ∙ sym
-        (gathered-with
+    held-small : Small (held-in (nodes n ws') k)
+    held-small =
+        rw
+        (O .held k within)
+        (bound-small
         a
-        (length picture)
-        (single grid a)
-        (below (root-of picture ws₀) i r)
-        (below (root-of picture ws₀) (i + 1) s)
-        i
-        b
-        (below-last (root-of picture ws₀) i r)
-        (λ x d.
-        subst
-        (λ (k : ℕ). below (root-of picture ws₀) (i + 1) k x ≡ (below (root-of picture ws₀) i r x || eqb i x))
-        (sym z)
-        (below-more (root-of picture ws₀) i r x (sym is)))))
-        (λ ne.
-        getD-set-other ws (4 * length picture + r) (4 * length picture + s) y 0 (λ z. ne (omega arith))
-        ∙ O .held s c
-        ∙ sym
-        (gather-ext
-        (length picture)
-        (combined a)
-        (nothing a)
-        (single grid a)
-        (below (root-of picture ws₀) (i + 1) s)
-        (below (root-of picture ws₀) i s)
-        (λ x d. below-other (root-of picture ws₀) i s x (λ z. ne (sym z ∙ sym is)))))
-        (equal-or-not s r)
+        n
+        _
+        (start .sized .small)
+        (gathered-small a n (single grid a) _ (λ x c. single-small grid a x (start .short x c))))
 
-    abbrev m : ℕ
-    m = lowest-of picture ws₀ (root-of picture ws₀ i)
+    pub gather-asked : {own : ℕ} → own ≡ single grid a q → Gatherable q (number-at ws' q) own (nodes n ws')
+    gather-asked e =
+        rw number-is
+        (record {
+          within = room;
+          pixel = omega (arith, b, start .sized .small);
+          small = held-small;
+          small-own = rw e own-small;
+        })
 
-    abbrev unnoted : Bool
-    unnoted = eqb (first-of (length picture) ws₁ r) (length picture)
+    pub owning-more : {own : ℕ} {words' : List ℕ} → own ≡ single grid a q → words' ≡ gathered-at a q (number-at ws' q) own (nodes n ws') → Owning grid a n m ws₀ (returned (3 * n) (6 * n) ws' words') q
+    owning-more {own} {words'} e f =
+        let words₁ : List ℕ = gathered-at a q k (single grid a q) (nodes n ws') in
+        let S = node-stored m (nodes n ws') k q (combined a (held-in (nodes n ws') k) (single grid a q)) room in
+        let after : nodes n (returned (3 * n) (6 * n) ws' words₁) ≡ words₁ = back-nodes n ws' sized words₁ (S .long) in
+        rw
+        (f, e, number-is)
+        (record {
+          top = omega (arith, b);
+          long = back-long n ws' sized words₁ (S .long) ∙ O .long;
+          before = λ j c. back-before n ws' sized words₁ (S .long) j c ∙ O .before j c;
+          ups = rw after (λ j. S .ups j ∙ O .ups j);
+          lowest = rw after (least-next n m q (number-at ws₀) (lowest-in (nodes n ws')) (lowest-in words₁) (O .lowest) (S .lowest));
+          held =
+              rw after
+              (gathered-next a n m q (single grid a) (number-at ws₀) (held-in (nodes n ws')) (held-in words₁) b (O .held) within (S .held));
+        })
 
-    -- nothing is noted exactly where i is the lowest own pixel
-    fresh : unnoted ≡ lowest-own-pixel picture ws₀ i
-    fresh =
-        same-truth
-        unnoted
-        (lowest-own-pixel picture ws₀ i)
-        (λ e.
-        let free : first-of (length picture) ws r ≡ length picture =
-        sym (first-same r in-range) ∙ eqb-true (first-of (length picture) ws₁ r) (length picture) e in
-        eq-eqb
-        m
-        i
-        (⊎-elim
-        (λ z. z)
-        (λ ne.
-        let before : m < i = omega (arith, low-le (length picture) (grey picture) (parent-of ws₀) i b) in
-        let same : first-of (length picture) ws (root-of picture ws₀ m) ≡ first-of (length picture) ws r =
-        ap (first-of (length picture) ws) (low-root (length picture) (grey picture) (parent-of ws₀) i b ∙ sym is) in
-        absurd (omega (arith, O .first m before .low)))
-        (equal-or-not m i)))
-        (λ e.
-        let z : m ≡ i = eqb-true m i e in
-        eq-eqb
-        (first-of (length picture) ws₁ r)
-        (length picture)
-        (first-same r in-range
-        ∙ O .none r in-range
-        (λ x c f.
-        let g : lowest-of picture ws₀ (root-of picture ws₀ x) ≡ m = ap (lowest-of picture ws₀) (f ∙ is) in
-        omega (arith, low-le (length picture) (grey picture) (parent-of ws₀) x (omega arith)))))
-
-    level-first : lowest-own-pixel picture ws₀ i ≡ true → node-level picture ws₀ i ≡ grey picture i
-    level-first e = ap (λ (t : Bool). cond t (grey picture i) 256) e
-
-    level-other : lowest-own-pixel picture ws₀ i ≡ false → node-level picture ws₀ i ≡ 256
-    level-other e = ap (λ (t : Bool). cond t (grey picture i) 256) e
-
-    -- a node that is met for the first time
-    module _ (e : unnoted ≡ true) where
-      abbrev ws₂ : List ℕ
-      ws₂ = set ws₁ (3 * length picture + r) i
-
-      room : 3 * length picture + r < length ws₁
-      room = rw (length-set ws (4 * length picture + r) y) first-place
-
-      other₂ : (k : ℕ) → (k ≡ 3 * length picture + r → ⊥) → getD ws₂ k 0 ≡ getD ws₁ k 0
-      other₂ k ne = getD-set-other ws₁ (3 * length picture + r) k i 0 ne
-
-      here₂ : first-of (length picture) ws₂ r ≡ i
-      here₂ = getD-set-same ws₁ (3 * length picture + r) i 0 room
-
-      first₂ : (x : ℕ) → x < i + 1 → First picture ws₀ ws₂ x
-      first₂ x c =
-          let s : ℕ = root-of picture ws₀ x in
-          let d : s < length picture = root-within picture ws₀ x (omega arith) (start .within x (omega arith)) in
-          ⊎-elim
-          (λ z.
-          let f : first-of (length picture) ws₂ s ≡ i = ap (first-of (length picture) ws₂) z ∙ here₂ in
-          let l : i ≤ x =
-          ⊎-elim
-          (λ v. omega arith)
-          (λ v.
-          let g : m ≡ i = eqb-true m i (sym fresh ∙ e) in
-          let h : lowest-of picture ws₀ s ≡ m = ap (lowest-of picture ws₀) (z ∙ is) in
-          omega (arith, low-le (length picture) (grey picture) (parent-of ws₀) x (omega arith)))
-          (equal-or-not x i) in
-          record { low = omega arith; own = ap (root-of picture ws₀) f ∙ sym is ∙ sym z })
-          (λ ne.
-          let f : first-of (length picture) ws₂ s ≡ first-of (length picture) ws s =
-          other₂ (3 * length picture + s) (λ z. ne (omega arith)) ∙ first-same s d in
-          let off : x ≡ i → ⊥ = λ z. ne (ap (root-of picture ws₀) z ∙ sym is) in
-          let F : First picture ws₀ ws x = O .first x (omega arith) in
-          record { low = omega (arith, F .low); own = ap (root-of picture ws₀) f ∙ F .own })
-          (equal-or-not s r)
-
-      none₂ : (s : ℕ) → s < length picture → ((x : ℕ) → x < i + 1 → root-of picture ws₀ x ≡ s → ⊥) → first-of (length picture) ws₂ s ≡ length picture
-      none₂ s c free =
-          other₂ (3 * length picture + s) (λ z. let v : s ≡ r = omega arith in free i (omega arith) (sym is ∙ sym v))
-          ∙ first-same s c
-          ∙ O .none s c (λ x d f. free x (omega arith) f)
-
-      counts₂ : (l : ℕ) → l < 256 → getD (set counts (grey picture i) (getD counts (grey picture i) 0 + 1)) l 0 ≡ count (i + 1) (λ (q : ℕ). eqb (node-level picture ws₀ q) l)
-      counts₂ l c =
-          let at : node-level picture ws₀ i ≡ grey picture i = level-first (sym fresh ∙ e) in
-          subst
-          (λ (k : ℕ). getD (set counts k (getD counts k 0 + 1)) l 0 ≡ count (i + 1) (λ (q : ℕ). eqb (node-level picture ws₀ q) l))
-          at
-          (counts-more (node-level picture ws₀) counts i (O .wide) (omega (arith, start .bytes i)) (O .nodes) l c)
-
-      met-first : Owning grid a picture ws₀ ws₂ (set counts (grey picture i) (getD counts (grey picture i) 0 + 1)) (i + 1)
-      met-first =
-          record {
-            top = omega arith;
-            words = length-set ws₁ (3 * length picture + r) i ∙ length-set ws (4 * length picture + r) y ∙ O .words;
-            kept =
-                λ k c.
-                other₂ k (λ z. omega arith)
-                ∙ getD-set-other ws (4 * length picture + r) k y 0 (λ z. omega arith)
-                ∙ O .kept k c;
-            first = first₂;
-            none = none₂;
-            held = λ s c. other₂ (4 * length picture + s) (λ z. omega (arith, in-range)) ∙ held-more s c;
-            wide = length-set counts (grey picture i) _ ∙ O .wide;
-            nodes = counts₂;
-          }
-
-    -- a node that was met before
-    module _ (e : unnoted ≡ false) where
-      not-first : lowest-own-pixel picture ws₀ i ≡ false
-      not-first = sym fresh ∙ e
-
-      before : m < i
-      before =
-          let ne : m ≡ i → ⊥ = eqb-false m i not-first in
-          omega (arith, low-le (length picture) (grey picture) (parent-of ws₀) i b)
-
-      first₁ : (x : ℕ) → x < i → First picture ws₀ ws₁ x
-      first₁ x c =
-          let f : first-of (length picture) ws₁ (root-of picture ws₀ x) ≡ first-of (length picture) ws (root-of picture ws₀ x) =
-          first-same (root-of picture ws₀ x) (root-within picture ws₀ x (omega arith) (start .within x (omega arith))) in
-          record { low = omega (arith, O .first x c .low); own = ap (root-of picture ws₀) f ∙ O .first x c .own }
-
-      first-last : First picture ws₀ ws₁ i
-      first-last =
-          let F : First picture ws₀ ws₁ m = first₁ m before in
-          let z : root-of picture ws₀ m ≡ root-of picture ws₀ i = low-root (length picture) (grey picture) (parent-of ws₀) i b in
-          let f : first-of (length picture) ws₁ (root-of picture ws₀ m) ≡ first-of (length picture) ws₁ (root-of picture ws₀ i) =
-          ap (first-of (length picture) ws₁) z in
-          record { low = omega (arith, F .low, before); own = ap (root-of picture ws₀) (sym f) ∙ F .own ∙ z }
-
-      met-again : Owning grid a picture ws₀ ws₁ counts (i + 1)
-      met-again =
-          record {
-            top = omega arith;
-            words = length-set ws (4 * length picture + r) y ∙ O .words;
-            kept = λ k c. getD-set-other ws (4 * length picture + r) k y 0 (λ z. omega arith) ∙ O .kept k c;
-            first =
-                λ x c.
-                ⊎-elim (λ z. subst (λ (k : ℕ). First picture ws₀ ws₁ k) (sym z) first-last) (λ ne. first₁ x (omega arith)) (equal-or-not x i);
-            none = λ s c free. first-same s c ∙ O .none s c (λ x d f. free x (omega arith) f);
-            held = held-more;
-            wide = O .wide;
-            nodes =
-                λ l c.
-                let off-level : bit (eqb (node-level picture ws₀ i) l) ≡ 0 =
-                off (ne-eqb (node-level picture ws₀ i) l (λ z. omega (arith, level-other not-first))) in
-                omega (arith, O .nodes l c, count-next i (λ (q : ℕ). eqb (node-level picture ws₀ q) l));
-          }
-
-    pub owning-more : {l part c : List ℕ} → l ≡ ws₁ → part ≡ noted-at picture i r (lent (3 * n) (4 * n) l)
-        → c ≡ counted-at picture i r (lent (3 * n) (4 * n) l) counts → Owning grid a picture ws₀ (returned (3 * n) (4 * n) l part) c (i + 1)
-    owning-more d e f =
-        rw (e, f, d, noted-read)
-        (⊎-elim
-        (λ t. rw (t, stored-in (3 * n) (4 * n) ws₁ high₁ r i (omega (arith, in-range))) (met-first t))
-        (λ t.
-        rw t (subst (λ (l : List ℕ). Owning grid a picture ws₀ l counts (i + 1)) (sym (put-same (3 * n) (4 * n - 3 * n) ws₁)) (met-again t)))
-        (decided unnoted))
-
-  first-lowest : (ws counts : List ℕ) → Owning grid a picture ws₀ ws counts (length picture) → (q : ℕ) → q < length picture → first-of (length picture) ws (root-of picture ws₀ q) ≡ lowest-of picture ws₀ (root-of picture ws₀ q)
-  unfolding lowest
-  first-lowest ws counts O q b =
-      let s : Positions = λ x. eqb (root-of picture ws₀ x) (root-of picture ws₀ q) in
-      let F : First picture ws₀ ws q = O .first q b in
-      let m : ℕ = lowest-of picture ws₀ (root-of picture ws₀ q) in
-      le-antisymm
-      (subst (λ (r : ℕ). first-of (length picture) ws r ≤ m) (low-root (length picture) (grey picture) (parent-of ws₀) q b) (O .first m (omega (arith, low-le (length picture) (grey picture) (parent-of ws₀) q b)) .low))
-      (first-in-le
-      (length picture)
-      s
-      (first-of (length picture) ws (root-of picture ws₀ q))
-      (omega (arith, F .low))
-      (eq-eqb (root-of picture ws₀ (first-of (length picture) ws (root-of picture ws₀ q))) (root-of picture ws₀ q) (F .own)))
-
-  pub owning-end : {ws counts : List ℕ} {i : ℕ} → length picture ≤ i → Owning grid a picture ws₀ ws counts i → Owned grid a picture ws₀ ws counts
-  owning-end {ws} {counts} {i} all P =
-      let z : i ≡ length picture = omega (arith, P .top) in
-      let O : Owning grid a picture ws₀ ws counts (length picture) = subst (λ (k : ℕ). Owning grid a picture ws₀ ws counts k) z P in
+  pub owning-end : {ws' : List ℕ} {q : ℕ} → q ≤ 0 → Owning grid a n m ws₀ ws' q → Owned grid a n m ws ws'
+  owning-end {ws'} none taken =
+      let O : Owning grid a n m ws₀ ws' 0 = subst (λ (i : ℕ). Owning grid a n m ws₀ ws' i) (omega arith) taken in
+      let long : length ws' ≡ words-a-pixel * n = owning-long O ∙ start .sized .words in
+      let same : (k x : ℕ) → x < n → numbered ws₀ k x ≡ numbered ws k x = λ k x b. ap (λ (j : ℕ). eqb j k) (same-number x b) in
+      let node : (k : ℕ) → k < m → k < n = λ k c. omega (arith, start .few) in
       record {
-        words = O .words;
-        kept = O .kept;
-        first = first-lowest ws counts O;
+        kept =
+            record {
+              words = owning-long O;
+              before = λ j b. O .before j b ∙ back-before n ws (start .sized .words) words (blank .long) j b;
+              ups =
+                  λ k c.
+                  sym (up-read n ws' long k (node k c))
+                  ∙ O .ups k
+                  ∙ ap (λ (l : List ℕ). up-in l k) blanked
+                  ∙ blank .ups k
+                  ∙ up-read n ws (start .sized .words) k (node k c);
+            };
+        lowest =
+            λ k c.
+            let p = start .some k c in
+            sym (lowest-read n ws' long k (node k c))
+            ∙ least-first n m (number-at ws₀) (lowest-in (nodes n ws')) (O .lowest) k (p .0) c (p .1) (same-number (p .0) (p .1) ∙ p .2)
+            ∙ gather-ext n min n (λ (x : ℕ). x) (numbered ws₀ k) (numbered ws k) (same k);
         held =
-            λ r b.
-            O .held r b
-            ∙ gather-ext
-            (length picture)
-            (combined a)
-            (nothing a)
-            (single grid a)
-            (below (root-of picture ws₀) (length picture) r)
-            (owned (grey picture) (parent-of ws₀) r)
-            (λ x c. ap (λ (t : Bool). t && eqb (root-of picture ws₀ x) r) (lt-ltb x (length picture) c));
-        counted = as-table (λ (l : ℕ). count (length picture) (λ (q : ℕ). eqb (node-level picture ws₀ q) l)) (O .wide) (O .nodes);
+            λ k c.
+            sym (held-read n ws' long k (node k c))
+            ∙ O .held k c
+            ∙ gather-ext n (combined a) (nothing a) (single grid a) (from (number-at ws₀) 0 k) (numbered ws k)
+            (λ x b. from-first (number-at ws₀) k x ∙ same k x b);
       }

@@ -1,68 +1,54 @@
--- What the pass over the own pixels asks and leaves, on the lists that it is lent.
+-- What the pass over the own pixels asks and leaves, on the words that it is lent.
 use Prim.Native.Nat.{ℕ, _+_, _*_, _≤_, _<_}
-use mathlib.Core.Bool.{Bool, cond}
 use mathlib.Core.List.{List}
 use mathlib.Core.Path.{_≡_}
 use lib.Dec.{eqb}
 use lib.ListN.{getD, length, set}
-use Rattle.sets.specs.Sets.{count, table}
+use Rattle.sets.specs.Sets.{Positions}
+use Rattle.sets.specs.Gather.{first-in}
 use Rattle.grid.specs.declared.Grid.{Grid}
 use Rattle.causes.specs.Bounds.{most-pixels}
-use Rattle.levels.specs.Levels.{grey}
-use Rattle.levels.specs.Workspace.{parent-of, Sized}
-use Rattle.accumulators.specs.Accumulators.{nothing, single, gathered, Short}
-use Rattle.branches.specs.Branches.{owned}
-use Rattle.parts.specs.Parts.{first-of, held-of, root-of, lowest-of, node-level, filled}
+use Rattle.levels.specs.Workspace.{Sized, number-at, lowest-of, up-of, held-of}
+use Rattle.accumulators.specs.Accumulators.{nothing, single, combined, gathered, Small, Short}
 
--- part 2 is zero, no pixel is noted in part 4, part 5 holds the accumulator of no pixel, and the rest is as it was; n words a part
-unfoldable pub blanked : ℕ → ℕ → List ℕ → List ℕ
-blanked n a ws = filled (4 * n) (5 * n) (nothing a) (filled (3 * n) (4 * n) n (filled n (2 * n) 0 ws))
+-- the own pixels of the node of number k
+abbrev pub numbered : List ℕ → ℕ → Positions
+numbered ws k x = eqb (number-at ws x) k
 
--- no pixel is noted in part 4, part 5 holds the accumulator of no pixel, and rows and columns are short
-pub record Blank (grid : Grid) (a : ℕ) (picture ws : List ℕ) : Type 0 where
-  pub sized : Sized (length picture) ws
-  pub bytes : (x : ℕ) → grey picture x < 256
+-- each of n pixels has the number of one of m nodes, each node has a pixel, and rows and columns are short
+pub record Countable (grid : Grid) (a n m : ℕ) (ws : List ℕ) : Type 0 where
+  pub sized : Sized n ws
+  pub few : m ≤ n
   pub wide : 0 < grid .width
-  pub short : (q : ℕ) → q < length picture → Short grid a q
-  pub within : (q : ℕ) → q < length picture → parent-of ws q < length picture
-  pub unnoted : (r : ℕ) → r < length picture → first-of (length picture) ws r ≡ length picture
-  pub blank : (r : ℕ) → r < length picture → held-of (length picture) ws r ≡ nothing a
+  pub short : (q : ℕ) → q < n → Short grid a q
+  pub within : (q : ℕ) → q < n → number-at ws q < m
+  pub some : (k : ℕ) → k < m → (q : ℕ) × (q < n) × (number-at ws q ≡ k)
 
--- q and the root r of its node are pixels, part 4 has a word for each pixel, and the count of the level of q is small
-pub record Noting (picture : List ℕ) (q r : ℕ) (part counts : List ℕ) : Type 0 where
-  pub words : length part ≡ length picture
-  pub small : length picture ≤ most-pixels
-  pub within : q < length picture
-  pub root : r < length picture
-  pub level : grey picture q < 256
-  pub wide : length counts ≡ 256
-  pub few : getD counts (grey picture q) 0 ≤ length picture
-
--- no own pixel of the node whose root is r is noted
-abbrev pub none-noted : List ℕ → ℕ → List ℕ → Bool
-none-noted picture r part = eqb (getD part r 0) (length picture)
-
--- part 4 and the counts once q is noted as the first own pixel of the node whose root is r, unless one is noted
-abbrev pub noted-at : List ℕ → ℕ → ℕ → List ℕ → List ℕ
-noted-at picture q r part = cond (none-noted picture r part) (set part r q) part
-
-abbrev pub counted-at : List ℕ → ℕ → ℕ → List ℕ → List ℕ → List ℕ
-counted-at picture q r part counts =
-    cond (none-noted picture r part) (set counts (grey picture q) (getD counts (grey picture q) 0 + 1)) counts
-
--- how many nodes each level has
-abbrev pub nodes-a-level : List ℕ → List ℕ → List ℕ
-nodes-a-level picture ws = table 256 (λ (l : ℕ). count (length picture) (λ (q : ℕ). eqb (node-level picture ws q) l))
-
--- the lowest own pixel of each node, and the accumulator of its own pixels; and how many nodes each level has
-pub record Owned (grid : Grid) (a : ℕ) (picture ws ws' counts : List ℕ) : Type 0 where
+-- the words of parts 1 to 3 and the parents' numbers are as they were
+pub record Kept (n m : ℕ) (ws ws' : List ℕ) : Type 0 where
   pub words : length ws' ≡ length ws
-  pub kept : (k : ℕ) → k < 3 * length picture → getD ws' k 0 ≡ getD ws k 0
-  pub first :
-      (q : ℕ) → q < length picture
-      → first-of (length picture) ws' (root-of picture ws q) ≡ lowest-of picture ws (root-of picture ws q)
-  pub held :
-      (r : ℕ) → r < length picture
-      → held-of (length picture) ws' r
-      ≡ gathered a (length picture) (single grid a) (owned (grey picture) (parent-of ws) r)
-  pub counted : counts ≡ nodes-a-level picture ws
+  pub before : (k : ℕ) → k < 3 * n → getD ws' k 0 ≡ getD ws k 0
+  pub ups : (k : ℕ) → k < m → up-of n ws' k ≡ up-of n ws k
+
+-- among the words of the nodes: the accumulator of no pixel for each of m nodes; the parents' numbers are as they were
+pub record Blank (a m : ℕ) (words words' : List ℕ) : Type 0 where
+  pub long : length words' ≡ length words
+  pub ups : (k : ℕ) → getD words' (3 * k + 1) 0 ≡ getD words (3 * k + 1) 0
+  pub held : (k : ℕ) → k < m → getD words' (3 * k + 2) 0 ≡ nothing a
+
+-- the words of the nodes hold those of the node k; its accumulator and that of its own pixel q are small
+pub record Gatherable (q k own : ℕ) (words : List ℕ) : Type 0 where
+  pub within : 3 * k + 2 < length words
+  pub pixel : q < most-pixels
+  pub small : Small (getD words (3 * k + 2) 0)
+  pub small-own : Small own
+
+-- the words of the nodes once the own pixel q, whose accumulator is given, is added to the node k
+abbrev pub gathered-at : ℕ → ℕ → ℕ → ℕ → List ℕ → List ℕ
+gathered-at a q k own words = set (set words (3 * k) q) (3 * k + 2) (combined a (getD words (3 * k + 2) 0) own)
+
+-- the lowest own pixel of each of m nodes, and the accumulator of its own pixels
+pub record Owned (grid : Grid) (a n m : ℕ) (ws ws' : List ℕ) : Type 0 where
+  pub kept : Kept n m ws ws'
+  pub lowest : (k : ℕ) → k < m → lowest-of n ws' k ≡ first-in n (numbered ws k)
+  pub held : (k : ℕ) → k < m → held-of n ws' k ≡ gathered a n (single grid a) (numbered ws k)

@@ -4,8 +4,8 @@ use Prim.Native.Nat.{ℕ, _+_, _-_, _≤_, _<_}
 use mathlib.Core.List.{List, _++_, append-assoc, append-nil}
 use mathlib.Core.Path.{_≡_, refl, sym, ap, _∙_}
 use native.Mathlib.Omega.{arith}
-use lib.ListN.{getD, length, set, take, drop, replicate, length-set, length-append, length-replicate, length-drop, getD-replicate, replicate-append-replicate, List·getD-append, drop-of-length-le}
-use lib.Seq.{getD-set-same, getD-set-other, length-take-le, getD-take, getD-drop, getD-append-add, take-at, drop-drop, drop-append-add, take-set-lt, take-set-le, drop-set-lt, drop-set-add}
+use lib.ListN.{getD, length, set, take, drop, replicate, length-set, length-append, length-replicate, length-drop, replicate-append-replicate, drop-of-length-le}
+use lib.Seq.{getD-set-same, getD-set-other, length-take-le, getD-take, getD-drop, take-at, drop-drop, drop-append-add, take-set-lt, take-set-le, drop-set-lt, drop-set-add}
 use borrow.Rule.Slice.PartMut.{midOf, putMid, mid-len, post-is, set-mid-at}
 use Rattle.parts.specs.Parts.{filled}
 
@@ -47,17 +47,6 @@ module _ (a e v : ℕ) (xs : List ℕ) (low : a ≤ e) (high : e ≤ length xs) 
   pub filled-long : length (filled a e v xs) ≡ length xs
   filled-long =
       simp (length-append, length-replicate, length-drop) (omega (arith, front))
-
-  pub filled-before : (k : ℕ) → k < a → getD (filled a e v xs) k 0 ≡ getD xs k 0
-  filled-before k l = List·getD-append (take a xs) _ 0 k (rw front l) ∙ getD-take a xs k 0 l
-
-  pub filled-inside : (k : ℕ) → a + k < e → getD (filled a e v xs) (a + k) 0 ≡ v
-  filled-inside k l =
-      let here : k < e - a = omega arith in
-      ap (λ (i : ℕ). getD (filled a e v xs) (i + k) 0) (sym front)
-      ∙ getD-append-add (take a xs) (replicate (e - a) v ++ drop e xs) k 0
-      ∙ List·getD-append (replicate (e - a) v) (drop e xs) 0 k (rw (length-replicate (e - a) v) here)
-      ∙ getD-replicate (e - a) k v 0 here
 
 -- a part filled with the word of the part before it
 filled-on : (a b e v : ℕ) (xs : List ℕ) → a ≤ b → b ≤ e → e ≤ length xs → filled b e v (filled a b v xs) ≡ filled a e v xs

@@ -1,1 +1,1 @@
-// The parts of the workspace: their words, and a part that is lent and comes back. Definitions and laws only, no code.
+// A part of a list that is lent and comes back, with words stored in it or filled with one word. Definitions and laws only, no code.

@@ -3,17 +3,9 @@ use Prim.Native.Nat.{ℕ, _≤_}
 use mathlib.Core.List.{List}
 use mathlib.Core.Path.{_≡_}
 use native.Mathlib.Nat.{le-refl}
-use lib.Dec.{eqb}
 use lib.ListN.{length}
 use borrow.Author.Tests.{eq-eqb}
-use Rattle.opening.proofs.Levels.{cond-case}
-use Rattle.falls.proofs.Places.{places-le}
 use Rattle.places.specs.Places.{place-of}
-
-pub place-of-le : (steps : List ℕ) (r parent a : ℕ) → place-of steps r parent a ≤ length steps
-unfolding place-of
-place-of-le steps r parent a =
-    cond-case (λ (k : ℕ). k ≤ length steps) (eqb parent r) (λ e. le-refl (length steps)) (λ e. places-le a steps)
 
 -- the root never falls
 pub place-of-root : (steps : List ℕ) (r parent a : ℕ) → parent ≡ r → length steps ≤ place-of steps r parent a

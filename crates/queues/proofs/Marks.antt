@@ -128,90 +128,110 @@ top-within H b hi = lt-of-not-le (λ g. not-le-of-lt (lt-of-le-of-lt (H .reached
 pub one-shifted : (j : ℕ) → j < 64 → (1 * 2 ^ j) % 2 ^ 64 ≡ 2 ^ j
 one-shifted j h = shl-exact {a = 1} 1 j 64 (omega arith) (omega arith) ∙ one-mul (2 ^ j)
 
--- the table with a new root of level l, and a new word where its bit is
+-- the table with a new number of level l, and a new word where its bit is
 abbrev pub remarked : List ℕ → ℕ → ℕ → ℕ → List ℕ
-remarked roots l v x = set (set roots l v) (256 + l / 64) x
+remarked opened l v x = set (set opened l v) (256 + l / 64) x
 
-module _ (roots : List ℕ) (l v x : ℕ) (wide : length roots ≡ 260) (lo : l < 256) where
-  pub remarked-wide : length (remarked roots l v x) ≡ 260
-  remarked-wide = length-set (set roots l v) (256 + l / 64) x ∙ length-set roots l v ∙ wide
+module _ (opened : List ℕ) (l v x : ℕ) (wide : length opened ≡ 262) (lo : l < 256) where
+  pub remarked-wide : length (remarked opened l v x) ≡ 262
+  remarked-wide = length-set (set opened l v) (256 + l / 64) x ∙ length-set opened l v ∙ wide
 
-  pub word-kept : getD (set roots l v) (256 + l / 64) 0 ≡ getD roots (256 + l / 64) 0
-  word-kept = getD-set-other roots l (256 + l / 64) v 0 (λ e. omega arith)
+  pub word-kept : getD (set opened l v) (256 + l / 64) 0 ≡ getD opened (256 + l / 64) 0
+  word-kept = getD-set-other opened l (256 + l / 64) v 0 (λ e. omega arith)
 
-  pub root-stored : Changed 256 (λ k. getD roots k 0) (λ k. getD (remarked roots l v x) k 0) l v
-  root-stored =
-      let old = stored 256 roots l v (omega arith) in
+  pub number-stored : Changed 256 (λ k. getD opened k 0) (λ k. getD (remarked opened l v x) k 0) l v
+  number-stored =
+      let old = stored 256 opened l v (omega arith) in
       record {
-        here = getD-set-other (set roots l v) (256 + l / 64) l x 0 (λ e. omega arith) ∙ old .here;
-        there = λ k h ne. getD-set-other (set roots l v) (256 + l / 64) k x 0 (λ e. omega arith) ∙ old .there k h ne;
+        here = getD-set-other (set opened l v) (256 + l / 64) l x 0 (λ e. omega arith) ∙ old .here;
+        there = λ k h ne. getD-set-other (set opened l v) (256 + l / 64) k x 0 (λ e. omega arith) ∙ old .there k h ne;
       }
 
-  word-here : getD (remarked roots l v x) (256 + l / 64) 0 ≡ x
-  word-here = getD-set-same (set roots l v) (256 + l / 64) x 0 (omega (arith, length-set roots l v))
+  pub past-kept : (j : ℕ) → 260 ≤ j → getD (remarked opened l v x) j 0 ≡ getD opened j 0
+  past-kept j h =
+      getD-set-other (set opened l v) (256 + l / 64) j x 0 (λ e. omega arith)
+      ∙ getD-set-other opened l j v 0 (λ e. omega arith)
 
-  module _ (others : (i : ℕ) → (i ≡ l % 64 → ⊥) → digit x i ≡ digit (getD roots (256 + l / 64) 0) i) where
-    mark-there : (k : ℕ) → k < 256 → (k ≡ l → ⊥) → mark (remarked roots l v x) k ≡ mark roots k
+  word-here : getD (remarked opened l v x) (256 + l / 64) 0 ≡ x
+  word-here = getD-set-same (set opened l v) (256 + l / 64) x 0 (omega (arith, length-set opened l v))
+
+  module _ (others : (i : ℕ) → (i ≡ l % 64 → ⊥) → digit x i ≡ digit (getD opened (256 + l / 64) 0) i) where
+    mark-there : (k : ℕ) → k < 256 → (k ≡ l → ⊥) → mark (remarked opened l v x) k ≡ mark opened k
     mark-there k h ne =
         by-cases
         (equal-or-not (k / 64) (l / 64))
         (λ e.
-        ap (λ (i : ℕ). digit (getD (remarked roots l v x) (256 + i) 0) (k % 64)) e
+        ap (λ (i : ℕ). digit (getD (remarked opened l v x) (256 + i) 0) (k % 64)) e
         ∙ ap (λ (w : ℕ). digit w (k % 64)) word-here
         ∙ others (k % 64) (λ z. ne (omega arith))
-        ∙ ap (λ (i : ℕ). digit (getD roots (256 + i) 0) (k % 64)) (sym e))
+        ∙ ap (λ (i : ℕ). digit (getD opened (256 + i) 0) (k % 64)) (sym e))
         (λ far.
         ap
         (λ (w : ℕ). digit w (k % 64))
-        (getD-set-other (set roots l v) (256 + l / 64) (256 + k / 64) x 0 (λ e. far (omega arith))
-        ∙ getD-set-other roots l (256 + k / 64) v 0 (λ e. omega arith)))
+        (getD-set-other (set opened l v) (256 + l / 64) (256 + k / 64) x 0 (λ e. far (omega arith))
+        ∙ getD-set-other opened l (256 + k / 64) v 0 (λ e. omega arith)))
 
-    pub mark-opened : {n : ℕ} → Marked n roots → (v ≡ n → ⊥) → digit x (l % 64) ≡ 1 → Marked n (remarked roots l v x)
+    pub mark-opened : {n : ℕ} → Marked n opened → (v ≡ n → ⊥) → digit x (l % 64) ≡ 1 → Marked n (remarked opened l v x)
     mark-opened M not-n one =
         record {
           open-set = λ k h o.
               by-cases
               (equal-or-not k l)
               (λ e. rw (e, word-here) one)
-              (λ ne. mark-there k h ne ∙ M .open-set k h (λ z. o (root-stored .there k h ne ∙ z)));
+              (λ ne. mark-there k h ne ∙ M .open-set k h (λ z. o (number-stored .there k h ne ∙ z)));
           closed-clear = λ k h c.
               by-cases
               (equal-or-not k l)
-              (λ e. absurd (not-n (sym (root-stored .here) ∙ (rw e at c))))
-              (λ ne. mark-there k h ne ∙ M .closed-clear k h (sym (root-stored .there k h ne) ∙ c));
+              (λ e. absurd (not-n (sym (number-stored .here) ∙ (rw e at c))))
+              (λ ne. mark-there k h ne ∙ M .closed-clear k h (sym (number-stored .there k h ne) ∙ c));
         }
 
-    pub mark-closed : {n : ℕ} → Marked n roots → v ≡ n → digit x (l % 64) ≡ 0 → Marked n (remarked roots l v x)
+    pub mark-closed : {n : ℕ} → Marked n opened → v ≡ n → digit x (l % 64) ≡ 0 → Marked n (remarked opened l v x)
     mark-closed M is-n none =
         record {
           open-set = λ k h o.
               by-cases
               (equal-or-not k l)
-              (λ e. absurd (o (rw e (root-stored .here ∙ is-n))))
-              (λ ne. mark-there k h ne ∙ M .open-set k h (λ z. o (root-stored .there k h ne ∙ z)));
+              (λ e. absurd (o (rw e (number-stored .here ∙ is-n))))
+              (λ ne. mark-there k h ne ∙ M .open-set k h (λ z. o (number-stored .there k h ne ∙ z)));
           closed-clear = λ k h c.
               by-cases
               (equal-or-not k l)
               (λ e. rw (e, word-here) none)
-              (λ ne. mark-there k h ne ∙ M .closed-clear k h (sym (root-stored .there k h ne) ∙ c));
+              (λ ne. mark-there k h ne ∙ M .closed-clear k h (sym (number-stored .there k h ne) ∙ c));
         }
 
--- the search in the first b bits of word i, where no level from there on and below l is open
-module _ {n : ℕ} {roots : List ℕ} {l : ℕ} (M : Marked n roots) (lo : l < 256) (i b : ℕ) (within : 64 * i + b ≤ l) (short : b ≤ 64)
-    (passed : (k : ℕ) → 64 * i + b ≤ k → k < l → getD roots k 0 ≡ n)
-  where
-    closed-of : (k : ℕ) → k < 256 → mark roots k ≡ 0 → getD roots k 0 ≡ n
-    closed-of k h none =
-        by-cases (equal-or-not (getD roots k 0) n) (λ e. e) (λ o. absurd (omega (arith, M .open-set k h o)))
+-- a store after the set leaves it, and the open nodes
+module _ (opened : List ℕ) (i v : ℕ) (after : 260 ≤ i) where
+  pub number-kept : (k : ℕ) → k < 256 → getD (set opened i v) k 0 ≡ getD opened k 0
+  number-kept k h = getD-set-other opened i k v 0 (λ e. omega arith)
 
-    mark-is : (k : ℕ) → 64 * i ≤ k → k < 64 * i + b → mark roots k ≡ digit (getD roots (256 + i) 0 % 2 ^ b) (k - 64 * i)
+  mark-kept : (k : ℕ) → k < 256 → mark (set opened i v) k ≡ mark opened k
+  mark-kept k h = ap (λ (w : ℕ). digit w (k % 64)) (getD-set-other opened i (256 + k / 64) v 0 (λ e. omega arith))
+
+  pub marks-kept : {n : ℕ} → Marked n opened → Marked n (set opened i v)
+  marks-kept M =
+      record {
+        open-set = λ k h o. mark-kept k h ∙ M .open-set k h (λ e. o (number-kept k h ∙ e));
+        closed-clear = λ k h c. mark-kept k h ∙ M .closed-clear k h (sym (number-kept k h) ∙ c);
+      }
+
+-- the search in the first b bits of word i, where no level from there on and below l is open
+module _ {n : ℕ} {opened : List ℕ} {l : ℕ} (M : Marked n opened) (lo : l < 256) (i b : ℕ) (within : 64 * i + b ≤ l) (short : b ≤ 64)
+    (passed : (k : ℕ) → 64 * i + b ≤ k → k < l → getD opened k 0 ≡ n)
+  where
+    closed-of : (k : ℕ) → k < 256 → mark opened k ≡ 0 → getD opened k 0 ≡ n
+    closed-of k h none =
+        by-cases (equal-or-not (getD opened k 0) n) (λ e. e) (λ o. absurd (omega (arith, M .open-set k h o)))
+
+    mark-is : (k : ℕ) → 64 * i ≤ k → k < 64 * i + b → mark opened k ≡ digit (getD opened (256 + i) 0 % 2 ^ b) (k - 64 * i)
     mark-is k ge lt =
         let word : k / 64 ≡ i = omega arith in
         let place : k % 64 ≡ k - 64 * i = omega arith in
-        ap₂ (λ (y z : ℕ). digit (getD roots (256 + y) 0) z) word place
-        ∙ low-digit (getD roots (256 + i) 0) b (k - 64 * i) (omega arith)
+        ap₂ (λ (y z : ℕ). digit (getD opened (256 + y) 0) z) word place
+        ∙ low-digit (getD opened (256 + i) 0) b (k - 64 * i) (omega arith)
 
-    none-within : getD roots (256 + i) 0 % 2 ^ b ≡ 0 → (k : ℕ) → 64 * i ≤ k → k < l → getD roots k 0 ≡ n
+    none-within : getD opened (256 + i) 0 % 2 ^ b ≡ 0 → (k : ℕ) → 64 * i ≤ k → k < l → getD opened k 0 ≡ n
     none-within none k ge lt =
         by-cases
         (below-or-not k (64 * i + b))
@@ -224,15 +244,15 @@ module _ {n : ℕ} {roots : List ℕ} {l : ℕ} (M : Marked n roots) (lo : l < 2
         ∙ ap (λ (w : ℕ). w % 2) (zero-div (2 ^ (k - 64 * i)))))
         (λ past. passed k past lt)
 
-    next-in : {h : ℕ} → Highest (getD roots (256 + i) 0 % 2 ^ b) h → NextOpen n roots l (64 * i + h)
+    next-in : {h : ℕ} → Highest (getD opened (256 + i) 0 % 2 ^ b) h → NextOpen n opened l (64 * i + h)
     next-in {h} H =
-        let w : ℕ = getD roots (256 + i) 0 % 2 ^ b in
-        let inside : h < b = top-within H b (mod-lt (getD roots (256 + i) 0) (pow-pos b)) in
+        let w : ℕ = getD opened (256 + i) 0 % 2 ^ b in
+        let inside : h < b = top-within H b (mod-lt (getD opened (256 + i) 0) (pow-pos b)) in
         record {
           lower = omega arith;
           open-here = λ e.
               let place : 64 * i + h - 64 * i ≡ h = omega arith in
-              let one : mark roots (64 * i + h) ≡ 1 =
+              let one : mark opened (64 * i + h) ≡ 1 =
               mark-is (64 * i + h) (omega arith) (omega arith)
               ∙ ap (λ (y : ℕ). digit w y) place
               ∙ top-digit H
@@ -247,34 +267,34 @@ module _ {n : ℕ} {roots : List ℕ} {l : ℕ} (M : Marked n roots) (lo : l < 2
         }
 
 -- the bits below level l in its own word, then the words below, from the next on
-module _ {n : ℕ} {roots : List ℕ} {l : ℕ} (M : Marked n roots) (lo : l < 256) where
-  own-is : getD roots (256 + l / 64) 0 % ((1 * 2 ^ (l % 64)) % 2 ^ 64) ≡ getD roots (256 + l / 64) 0 % 2 ^ (l % 64)
-  own-is = ap (λ (p : ℕ). getD roots (256 + l / 64) 0 % p) (one-shifted (l % 64) (omega arith))
+module _ {n : ℕ} {opened : List ℕ} {l : ℕ} (M : Marked n opened) (lo : l < 256) where
+  own-is : getD opened (256 + l / 64) 0 % ((1 * 2 ^ (l % 64)) % 2 ^ 64) ≡ getD opened (256 + l / 64) 0 % 2 ^ (l % 64)
+  own-is = ap (λ (p : ℕ). getD opened (256 + l / 64) 0 % p) (one-shifted (l % 64) (omega arith))
 
   pub own-none :
-      getD roots (256 + l / 64) 0 % ((1 * 2 ^ (l % 64)) % 2 ^ 64) ≡ 0 → (k : ℕ) → 64 * (l / 64) ≤ k → k < l → getD roots k 0 ≡ n
+      getD opened (256 + l / 64) 0 % ((1 * 2 ^ (l % 64)) % 2 ^ 64) ≡ 0 → (k : ℕ) → 64 * (l / 64) ≤ k → k < l → getD opened k 0 ≡ n
   own-none none =
       none-within M lo (l / 64) (l % 64) (omega arith) (omega arith) (λ k a b. absurd (omega arith)) (sym own-is ∙ none)
 
   pub own-next :
-      {h : ℕ} → Highest (getD roots (256 + l / 64) 0 % ((1 * 2 ^ (l % 64)) % 2 ^ 64)) h → NextOpen n roots l (64 * (l / 64) + h)
+      {h : ℕ} → Highest (getD opened (256 + l / 64) 0 % ((1 * 2 ^ (l % 64)) % 2 ^ 64)) h → NextOpen n opened l (64 * (l / 64) + h)
   own-next H =
       next-in M lo (l / 64) (l % 64) (omega arith) (omega arith) (λ k a b. absurd (omega arith)) (rw own-is at H)
 
-  module _ {i : ℕ} (some : 0 < i) (passed : (64 * i ≤ l) × ((k : ℕ) → 64 * i ≤ k → k < l → getD roots k 0 ≡ n)) where
-    before : (k : ℕ) → 64 * (i - 1) + 64 ≤ k → k < l → getD roots k 0 ≡ n
+  module _ {i : ℕ} (some : 0 < i) (passed : (64 * i ≤ l) × ((k : ℕ) → 64 * i ≤ k → k < l → getD opened k 0 ≡ n)) where
+    before : (k : ℕ) → 64 * (i - 1) + 64 ≤ k → k < l → getD opened k 0 ≡ n
     before k a b = passed .1 k (omega arith) b
 
     within : 64 * (i - 1) + 64 ≤ l
     within = omega (arith, passed .0)
 
-    pub word-none : getD roots (256 + (i - 1)) 0 ≡ 0 → (k : ℕ) → 64 * (i - 1) ≤ k → k < l → getD roots k 0 ≡ n
+    pub word-none : getD opened (256 + (i - 1)) 0 ≡ 0 → (k : ℕ) → 64 * (i - 1) ≤ k → k < l → getD opened k 0 ≡ n
     word-none none =
         none-within M lo (i - 1) 64 within (omega arith) before (ap (λ (w : ℕ). w % 2 ^ 64) none)
 
-    pub word-next : {h : ℕ} → Highest (getD roots (256 + (i - 1)) 0) h → NextOpen n roots l (64 * (i - 1) + h)
+    pub word-next : {h : ℕ} → Highest (getD opened (256 + (i - 1)) 0) h → NextOpen n opened l (64 * (i - 1) + h)
     word-next H =
-        let whole : getD roots (256 + (i - 1)) 0 % 2 ^ 64 ≡ getD roots (256 + (i - 1)) 0 =
+        let whole : getD opened (256 + (i - 1)) 0 % 2 ^ 64 ≡ getD opened (256 + (i - 1)) 0 =
         mod-eq-of-lt (lt-of-lt-of-le (H .beyond) (pow-mono {j = 64} (omega (arith, H .place))))
         in
         next-in M lo (i - 1) 64 within (omega arith) before (rw whole H)

@@ -1,64 +1,97 @@
--- The parts of the workspace: what is read after a store to part 1 or to part 3, and the operations of the flood on the lists as
--- steps between states.
+-- The parts of the workspace and the table of the open nodes: what is read after the stores of an operation, and the operations on the
+-- lists as steps of the numbers and the queues.
 use Prim.Native.Nat.{ℕ, _+_, _*_, _-_, _/_, _%_, _^_, _≤_, _<_}
 use mathlib.Core.List.{List}
-use mathlib.Core.Logic.{_⊎_, inl, inr}
+use mathlib.Core.Logic.{inl, inr}
 use mathlib.Core.Path.{_≡_, refl, ap, ap₂, _∙_}
 use native.Mathlib.Numerals.{add-one}
 use native.Mathlib.Omega.{arith}
 use lib.Bits.{bitOr}
 use lib.ListN.{getD, length, set, length-set}
 use lib.Seq.{getD-set-same, getD-set-other}
-use borrow.Author.Tests.{eq-eqb, ne-eqb}
 use Rattle.causes.specs.Bounds.{words-a-pixel, most-pixels}
 use Rattle.levels.specs.Tables.{Changed}
-use Rattle.levels.proofs.Counts.{by-cases, equal-or-not}
+use Rattle.levels.specs.Workspace.{number-at, closed-of, order-of, up-of}
+use Rattle.levels.proofs.Counts.{by-cases}
 use Rattle.levels.proofs.Tables.{stored}
-use Rattle.flooding.specs.Flooding.{Pushed}
 use Rattle.queues.specs.Marks.{digit, mark}
-use Rattle.queues.specs.Queues.{lists, state-of, root-or, Fitting, Placing, NoneOpen, NextOpen, NextBelow, Closable, ClosedBelow}
-use Rattle.queues.proofs.Marks.{set-here, set-there, bit-fits, clear-here, clear-there, one-shifted, remarked, remarked-wide, word-kept, root-stored, mark-opened, mark-closed}
+use Rattle.queues.specs.Queues.{Nameable, Naming, Fitting, Placing, NoneOpen, NextOpen, NextBelow, Closable, Shut}
+use Rattle.queues.proofs.Marks.{set-here, set-there, bit-fits, clear-here, clear-there, one-shifted, remarked, remarked-wide, word-kept, number-stored, past-kept, number-kept, mark-opened, mark-closed, marks-kept}
 
-pub root-or-open : (root n q : ℕ) → (root ≡ n → ⊥) → root-or root n q ≡ root
-root-or-open root n q ne = rw (ne-eqb root n ne) refl
+-- two stores, seen in a table whose entry x stands at place x of the words: an entry that both miss, and one that the first or the
+-- second hits
+module _ (ws : List ℕ) (a v b w : ℕ) (place : ℕ → ℕ) where
+  abbrev twice : List ℕ
+  twice = set (set ws a v) b w
 
-pub root-or-closed : (root n q : ℕ) → root ≡ n → root-or root n q ≡ q
-root-or-closed root n q e = rw (eq-eqb root n e) refl
+  missed : (x : ℕ) → (place x ≡ a → ⊥) → (place x ≡ b → ⊥) → getD twice (place x) 0 ≡ getD ws (place x) 0
+  missed x na nb = getD-set-other (set ws a v) b (place x) w 0 nb ∙ getD-set-other ws a (place x) v 0 na
 
-pub root-or-is :
-    (root n q : ℕ) → root ≤ n → ((root < n) × (root-or root n q ≡ root)) ⊎ ((root ≡ n) × (root-or root n q ≡ q))
-root-or-is root n q h =
-    by-cases
-    (equal-or-not root n)
-    (λ e. inr (e, root-or-closed root n q e))
-    (λ ne. inl (omega arith, root-or-open root n q ne))
-
-pub root-or-lt : (root n q : ℕ) → root ≤ n → q < n → root-or root n q < n
-root-or-lt root n q h hq =
-    by-cases (root-or-is root n q h) (λ w. rw (w .1) (w .0)) (λ w. rw (w .1) hq)
-
--- a store to part 1, and one to part 3
-module _ (n : ℕ) (ws : List ℕ) (size : length ws ≡ words-a-pixel * n) where
-  pub parents-stored : (q v : ℕ) → q < n → Changed n (λ x. getD ws x 0) (λ x. getD (set ws q v) x 0) q v
-  parents-stored q v h = stored n ws q v (omega arith)
-
-  pub parents-kept : (t v : ℕ) → (x : ℕ) → x < n → getD (set ws (2 * n + t) v) x 0 ≡ getD ws x 0
-  parents-kept t v x h = getD-set-other ws (2 * n + t) x v 0 (λ e. omega arith)
-
-  pub order-stored :
-      (t v : ℕ) → t < n → Changed n (λ i. getD ws (2 * n + i) 0) (λ i. getD (set ws (2 * n + t) v) (2 * n + i) 0) t v
-  order-stored t v h =
+  hit-first :
+      {n : ℕ} (i : ℕ) → place i ≡ a → a < length ws → (a ≡ b → ⊥)
+      → ((x : ℕ) → x < n → (x ≡ i → ⊥) → (place x ≡ a → ⊥) × (place x ≡ b → ⊥))
+      → Changed n (λ x. getD ws (place x) 0) (λ x. getD twice (place x) 0) i v
+  hit-first i e inside ne others =
       record {
-        here = getD-set-same ws (2 * n + t) v 0 (omega arith);
-        there = λ x hx ne. getD-set-other ws (2 * n + t) (2 * n + x) v 0 (λ e. ne (omega arith));
+        here = rw e (getD-set-other (set ws a v) b a w 0 ne ∙ getD-set-same ws a v 0 inside);
+        there = λ x h nx. missed x (others x h nx .0) (others x h nx .1);
       }
 
-  pub order-kept : (q v : ℕ) → q < n → (i : ℕ) → getD (set ws q v) (2 * n + i) 0 ≡ getD ws (2 * n + i) 0
-  order-kept q v h i = getD-set-other ws q (2 * n + i) v 0 (λ e. omega arith)
+  hit-second :
+      {n : ℕ} (i : ℕ) → place i ≡ b → b < length ws
+      → ((x : ℕ) → x < n → (x ≡ i → ⊥) → (place x ≡ a → ⊥) × (place x ≡ b → ⊥))
+      → Changed n (λ x. getD ws (place x) 0) (λ x. getD twice (place x) 0) i w
+  hit-second i e inside others =
+      record {
+        here = rw e (getD-set-same (set ws a v) b w 0 (rw (length-set ws a v) inside));
+        there = λ x h nx. missed x (others x h nx .0) (others x h nx .1);
+      }
+
+-- the number k at pixel q, and q at place t of the queues
+abbrev pub pushed-words : ℕ → List ℕ → ℕ → ℕ → ℕ → List ℕ
+pushed-words n ws q k t = set (set ws q k) (2 * n + t) q
+
+module _ (n : ℕ) (ws : List ℕ) (size : length ws ≡ words-a-pixel * n) (q k t : ℕ) (in-q : q < n) (in-t : t < n) where
+  number-pushed : Changed n (number-at ws) (number-at (pushed-words n ws q k t)) q k
+  number-pushed =
+      hit-first ws q k (2 * n + t) q (λ x. x) q refl (omega arith) (λ e. omega arith) (λ x h ne. (ne, λ e. omega arith))
+
+  order-pushed : Changed n (order-of n ws) (order-of n (pushed-words n ws q k t)) t q
+  order-pushed =
+      hit-second ws q k (2 * n + t) q (λ x. 2 * n + x) t refl (omega arith)
+      (λ x h ne. (λ e. omega arith, λ e. ne (omega arith)))
+
+  closed-pushed : (i : ℕ) → i < n → closed-of n (pushed-words n ws q k t) i ≡ closed-of n ws i
+  closed-pushed i h = missed ws q k (2 * n + t) q (λ x. n + x) i (λ e. omega arith) (λ e. omega arith)
+
+  up-pushed : (j : ℕ) → j < n → up-of n (pushed-words n ws q k t) j ≡ up-of n ws j
+  up-pushed j h = missed ws q k (2 * n + t) q (λ x. 3 * n + 3 * x + 1) j (λ e. omega arith) (λ e. omega arith)
+
+-- the number k at place i of the order of closing, and its parent's number p among the words of k
+abbrev pub shut-words : ℕ → List ℕ → ℕ → ℕ → ℕ → List ℕ
+shut-words n ws i k p = set (set ws (n + i) k) (3 * n + 3 * k + 1) p
+
+module _ (n : ℕ) (ws : List ℕ) (size : length ws ≡ words-a-pixel * n) (i k p : ℕ) (in-i : i < n) (in-k : k < n) where
+  closed-shut : Changed n (closed-of n ws) (closed-of n (shut-words n ws i k p)) i k
+  closed-shut =
+      hit-first ws (n + i) k (3 * n + 3 * k + 1) p (λ x. n + x) i refl (omega arith) (λ e. omega arith)
+      (λ x h ne. (λ e. ne (omega arith), λ e. omega arith))
+
+  up-shut : Changed n (up-of n ws) (up-of n (shut-words n ws i k p)) k p
+  up-shut =
+      hit-second ws (n + i) k (3 * n + 3 * k + 1) p (λ x. 3 * n + 3 * x + 1) k refl (omega arith)
+      (λ x h ne. (λ e. omega arith, λ e. ne (omega arith)))
+
+  number-shut : (q : ℕ) → q < n → number-at (shut-words n ws i k p) q ≡ number-at ws q
+  number-shut q h = missed ws (n + i) k (3 * n + 3 * k + 1) p (λ x. x) q (λ e. omega arith) (λ e. omega arith)
+
+  order-shut : (t : ℕ) → t < n → order-of n (shut-words n ws i k p) t ≡ order-of n ws t
+  order-shut t h =
+      missed ws (n + i) k (3 * n + 3 * k + 1) p (λ x. 2 * n + x) t (λ e. omega arith) (λ e. omega arith)
 
 -- the word that holds the bit of level l, and that word with the bit set and with the bit cleared
 abbrev pub mark-word : List ℕ → ℕ → ℕ
-mark-word roots l = getD roots (256 + l / 64) 0
+mark-word opened l = getD opened (256 + l / 64) 0
 
 abbrev pub with-level : ℕ → ℕ → ℕ
 with-level w l = bitOr w ((1 * 2 ^ (l % 64)) % 2 ^ 64)
@@ -69,126 +102,166 @@ without-level w l = w - (1 * 2 ^ (l % 64)) % 2 ^ 64
 level-bit : (l : ℕ) → (1 * 2 ^ (l % 64)) % 2 ^ 64 ≡ 2 ^ (l % 64)
 level-bit l = one-shifted (l % 64) (omega arith)
 
-pub pushed :
-    (n q l r x : ℕ) (ws heads tails roots : List ℕ) → Fitting n q l ws tails roots → r ≡ root-or (getD roots l 0) n q
-    → Pushed n l q (root-or (getD roots l 0) n q) (state-of n (lists ws heads tails roots))
-    (state-of n (lists (set (set ws q r) (2 * n + getD tails l 0) q) heads (set tails l (getD tails l 0 + 1)) (remarked roots l r x)))
-pushed n q l r x ws heads tails roots F e =
-    let size = F .sized .words in
-    let ws' = set ws q r in
-    let size' : length (set ws q r) ≡ words-a-pixel * n = length-set ws q r ∙ size in
-    let A = parents-stored n ws size q r (F .within) in
-    let B = order-stored n ws' size' (getD tails l 0) q (F .free) in
-    record {
-      root-is = root-or-is (getD roots l 0) n q (F .root);
-      par =
-          record {
-            here = parents-kept n ws' size' (getD tails l 0) q q (F .within) ∙ A .here ∙ e;
-            there = λ x hx ne. parents-kept n ws' size' (getD tails l 0) q x hx ∙ A .there x hx ne;
-          };
-      ord =
-          record {
-            here = B .here;
-            there = λ x hx ne. B .there x hx ne ∙ order-kept n ws size q r (F .within) x;
-          };
-      tail = rw (← add-one (getD tails l 0)) (stored 256 tails l (getD tails l 0 + 1) (omega (arith, F .level, F .wide-tails, F .wide-roots)));
-      root = rw (← e) (root-stored roots l r x (F .wide-roots) (F .level));
-      head = λ k. refl;
-    }
+-- the table with level l opened under the next number, and with level l closed
+abbrev pub opened-next : List ℕ → ℕ → List ℕ
+opened-next opened l =
+    let k = getD opened 260 0 in set (remarked opened l k (with-level (mark-word (set opened l k) l) l)) 260 (k + 1)
 
+abbrev pub closed-next : ℕ → List ℕ → ℕ → List ℕ
+closed-next n opened l = set (remarked opened l n (without-level (mark-word (set opened l n) l) l)) 261 (getD opened 261 0 + 1)
+
+-- a number of the level, where its node is open and where it is not
+module _ {n l : ℕ} {opened : List ℕ} (N : Nameable n l opened) where
+  pub named-open : (getD opened l 0 ≡ n → ⊥) → Naming n l opened (getD opened l 0) opened
+  named-open ne =
+      record {
+        which = inl (omega (arith, N .held), refl, refl);
+        open-at = record { here = refl; there = λ x h nx. refl };
+        done = refl;
+        wide = N .wide;
+        marks = N .marks;
+      }
+
+  pub named-next : getD opened l 0 ≡ n → Naming n l opened (getD opened 260 0) (opened-next opened l)
+  named-next e =
+      let k = getD opened 260 0 in
+      let w = mark-word opened l in
+      let x = with-level (mark-word (set opened l k) l) l in
+      let is : x ≡ bitOr w (2 ^ (l % 64)) =
+      ap₂ bitOr (word-kept opened l k x (N .wide) (N .level)) (level-bit l)
+      in
+      let marked = remarked opened l k x in
+      let wide' = remarked-wide opened l k x (N .wide) (N .level) in
+      let old = number-stored opened l k x (N .wide) (N .level) in
+      record {
+        which = inr (e, refl, getD-set-same marked 260 (k + 1) 0 (omega arith) ∙ add-one k);
+        open-at =
+            record {
+              here = number-kept marked 260 (k + 1) (omega arith) l (N .level) ∙ old .here;
+              there = λ j h ne. number-kept marked 260 (k + 1) (omega arith) j h ∙ old .there j h ne;
+            };
+        done = getD-set-other marked 260 261 (k + 1) 0 (λ z. omega arith) ∙ past-kept opened l k x (N .wide) (N .level) 261 (omega arith);
+        wide = length-set marked 260 (k + 1) ∙ wide';
+        marks =
+            marks-kept marked 260 (k + 1) (omega arith)
+            (mark-opened opened l k x (N .wide) (N .level)
+            (λ i ne. ap (λ (y : ℕ). digit y i) is ∙ set-there w (l % 64) i ne)
+            (N .marks)
+            (λ z. omega (arith, N .left e))
+            (ap (λ (y : ℕ). digit y (l % 64)) is ∙ set-here w (l % 64)));
+      }
+
+-- q in the run of its level, with the number k
 pub placing :
-    {n q l r : ℕ} {ws tails roots : List ℕ} → Fitting n q l ws tails roots → r ≡ root-or (getD roots l 0) n q
-    → Placing n q l ws tails roots (set (set ws q r) (2 * n + getD tails l 0) q) (set tails l (getD tails l 0 + 1))
-    (remarked roots l r (with-level (mark-word (set roots l r) l) l))
-placing {n} {q} {l} {r} {ws} {tails} {roots} F e =
-    let w = mark-word roots l in
-    let x = with-level (mark-word (set roots l r) l) l in
-    let is : x ≡ bitOr w (2 ^ (l % 64)) =
-    ap₂ bitOr (word-kept roots l r x (F .wide-roots) (F .level)) (level-bit l)
-    in
+    {n q l k : ℕ} {ws tails opened opened' : List ℕ} → Fitting n q l ws tails opened → Naming n l opened k opened'
+    → Placing n q l ws tails opened (pushed-words n ws q k (getD tails l 0)) (set tails l (getD tails l 0 + 1)) opened'
+placing {n} {q} {l} {k} {ws} {tails} F N =
+    let t = getD tails l 0 in
+    let size = F .sized .words in
+    let num = number-pushed n ws size q k t (F .within) (F .free) in
     record {
       wide-tails = length-set tails l _ ∙ F .wide-tails;
-      wide-roots = remarked-wide roots l r x (F .wide-roots) (F .level);
-      marks =
-          mark-opened roots l r x (F .wide-roots) (F .level)
-          (λ i ne. ap (λ (y : ℕ). digit y i) is ∙ set-there w (l % 64) i ne)
-          (F .marks)
-          (λ z. omega (arith, root-or-lt (getD roots l 0) n q (F .root) (F .within)))
-          (ap (λ (y : ℕ). digit y (l % 64)) is ∙ set-here w (l % 64));
-      step = λ heads. pushed n q l r x ws heads tails roots F e;
+      wide-opened = N .wide;
+      marks = N .marks;
+      numbering =
+          rw
+          (num .here)
+          (record {
+            which = N .which;
+            num = num;
+            open-at = N .open-at;
+            up = up-pushed n ws size q k t (F .within) (F .free);
+            closed = closed-pushed n ws size q k t (F .within) (F .free);
+            done = N .done;
+          });
+      ord = order-pushed n ws size q k t (F .within) (F .free);
+      tail = rw (← add-one t) (stored 256 tails l (t + 1) (omega (arith, F .nameable .level, F .wide-tails)));
     }
 
--- the bit of an open level is set, so it can be taken away
-level-marked : {n l : ℕ} {ws roots : List ℕ} → Closable n ws roots l → mark roots l ≡ 1
-level-marked {l = l} C = C .marks .open-set l (C .level) (λ e. omega (arith, C .open-here))
+pub number-small :
+    {n l k : ℕ} {opened opened' : List ℕ} → Nameable n l opened → Naming n l opened k opened' → k < n
+number-small N M = by-cases (M .which) (λ o. omega arith) (λ f. omega (arith, N .left (f .0)))
 
-pub level-fits :
-    {n l : ℕ} {ws roots : List ℕ} → Closable n ws roots l → (1 * 2 ^ (l % 64)) % 2 ^ 64 ≤ mark-word (set roots l n) l
-level-fits {n} {l} {ws} {roots} C =
-    rw
-    (level-bit l, word-kept roots l n 0 (C .wide-roots) (C .level))
-    (bit-fits (mark-word roots l) (l % 64) (level-marked C))
+-- the node of level l closed
+module _ {n l : ℕ} {ws opened : List ℕ} (C : Closable n ws opened l) where
+  -- the bit of an open level is set, so it can be taken away
+  level-marked : mark opened l ≡ 1
+  level-marked = C .marks .open-set l (C .level) (λ e. omega (arith, C .open-here))
 
--- the root of the next open level stays, and is a pixel
-next-kept :
-    {n l m : ℕ} {ws roots : List ℕ} → Closable n ws roots l → NextOpen n roots l m → (x : ℕ)
-    → getD (remarked roots l n x) m 0 ≡ getD roots m 0
-next-kept {n} {l} {m} {ws} {roots} C N x =
-    root-stored roots l n x (C .wide-roots) (C .level)
-    .there
-    m
-    (omega (arith, N .lower, C .level))
-    (λ e. omega (arith, N .lower))
+  pub level-fits : (1 * 2 ^ (l % 64)) % 2 ^ 64 ≤ mark-word (set opened l n) l
+  level-fits =
+      rw
+      (level-bit l, word-kept opened l n 0 (C .wide) (C .level))
+      (bit-fits (mark-word opened l) (l % 64) level-marked)
 
-pub next-small :
-    {n l m : ℕ} {ws roots : List ℕ} → Closable n ws roots l → NextOpen n roots l m
-    → getD (remarked roots l n (without-level (mark-word (set roots l n) l) l)) m 0 ≤ most-pixels
-next-small {n} {l} {m} {ws} {roots} C N =
-    let e = next-kept C N (without-level (mark-word (set roots l n) l) l) in
-    omega (arith, C .within m (omega (arith, N .lower, C .level)), C .sized .small)
+  abbrev x : ℕ
+  x = without-level (mark-word (set opened l n) l) l
 
-pub closing :
-    {n l m : ℕ} {ws roots : List ℕ} → Closable n ws roots l → NextOpen n roots l m
-    → ClosedBelow n ws roots
-    (set ws (getD roots l 0) (getD (remarked roots l n (without-level (mark-word (set roots l n) l) l)) m 0))
-    (remarked roots l n (without-level (mark-word (set roots l n) l) l))
-    l
-    m
-closing {n} {l} {m} {ws} {roots} C N =
-    let w = mark-word roots l in
-    let x = without-level (mark-word (set roots l n) l) l in
-    let is : x ≡ w - 2 ^ (l % 64) =
-    ap₂ (λ (y z : ℕ). y - z) (word-kept roots l n x (C .wide-roots) (C .level)) (level-bit l)
-    in
-    let v = getD (remarked roots l n x) m 0 in
-    let r = getD roots l 0 in
-    let size = C .sized .words in
-    let A = parents-stored n ws size r v (C .open-here) in
-    let R = root-stored roots l n x (C .wide-roots) (C .level) in
-    let e = next-kept C N x in
-    record {
-      next-open = N;
-      wide-roots = remarked-wide roots l n x (C .wide-roots) (C .level);
-      marks =
-          mark-closed roots l n x (C .wide-roots) (C .level)
-          (λ i ne. ap (λ (y : ℕ). digit y i) is ∙ clear-there w (l % 64) i (level-marked C) ne)
-          (C .marks)
-          refl
-          (ap (λ (y : ℕ). digit y (l % 64)) is ∙ clear-here w (l % 64) (level-marked C));
-      step = λ heads tails.
-          record {
-            par = record { here = A .here ∙ e; there = A .there };
-            root = R;
-            ord = λ i h. order-kept n ws size r v (C .open-here) i;
-            head = λ k. refl;
-            tail = λ k. refl;
-          };
-    }
+  abbrev marked : List ℕ
+  marked = remarked opened l n x
+
+  closed-at : Changed 256 (λ k. getD opened k 0) (λ k. getD (closed-next n opened l) k 0) l n
+  closed-at =
+      let old = number-stored opened l n x (C .wide) (C .level) in
+      let kept = number-kept marked 261 (getD opened 261 0 + 1) (omega arith) in
+      record { here = kept l (C .level) ∙ old .here; there = λ j h ne. kept j h ∙ old .there j h ne }
+
+  -- the number of the next open level stays, and fits a word
+  next-kept : {m : ℕ} → NextOpen n opened l m → getD (closed-next n opened l) m 0 ≡ getD opened m 0
+  next-kept {m} N =
+      closed-at .there m (omega (arith, N .lower, C .level)) (λ e. omega (arith, N .lower))
+
+  pub next-small : {m : ℕ} → NextOpen n opened l m → getD (closed-next n opened l) m 0 ≤ most-pixels
+  next-small {m} N =
+      omega (arith, next-kept N, C .within m (omega (arith, N .lower, C .level)), C .sized .small)
+
+  pub shuts :
+      (p : ℕ)
+      → Shut n ws opened (shut-words n ws (getD opened 261 0) (getD opened l 0) p) (closed-next n opened l) l p
+  shuts p =
+      let i = getD opened 261 0 in
+      let k = getD opened l 0 in
+      let w = mark-word opened l in
+      let is : x ≡ w - 2 ^ (l % 64) =
+      ap₂ (λ (y z : ℕ). y - z) (word-kept opened l n x (C .wide) (C .level)) (level-bit l)
+      in
+      let wide' = remarked-wide opened l n x (C .wide) (C .level) in
+      let size = C .sized .words in
+      record {
+        wide = length-set marked 261 (i + 1) ∙ wide';
+        marks =
+            marks-kept marked 261 (i + 1) (omega arith)
+            (mark-closed opened l n x (C .wide) (C .level)
+            (λ j ne. ap (λ (y : ℕ). digit y j) is ∙ clear-there w (l % 64) j level-marked ne)
+            (C .marks)
+            refl
+            (ap (λ (y : ℕ). digit y (l % 64)) is ∙ clear-here w (l % 64) level-marked));
+        shutting =
+            record {
+              up = up-shut n ws size i k p (C .left) (C .open-here);
+              closed = closed-shut n ws size i k p (C .left) (C .open-here);
+              open-at = closed-at;
+              num = number-shut n ws size i k p (C .left) (C .open-here);
+              taken =
+                  getD-set-other marked 261 260 (i + 1) 0 (λ z. omega arith)
+                  ∙ past-kept opened l n x (C .wide) (C .level) 260 (omega arith);
+              done = getD-set-same marked 261 (i + 1) 0 (omega arith) ∙ add-one i;
+            };
+        ord = order-shut n ws size i k p (C .left) (C .open-here);
+      }
+
+  pub shuts-below :
+      {m : ℕ} → NextOpen n opened l m
+      → Shut n ws opened (shut-words n ws (getD opened 261 0) (getD opened l 0) (getD (closed-next n opened l) m 0))
+      (closed-next n opened l)
+      l
+      (getD opened m 0)
+  shuts-below {m} N = rw (next-kept N) (shuts (getD opened m 0))
 
 -- what the search below a level found
-module _ {n : ℕ} {roots : List ℕ} {l m : ℕ} (F : NextBelow n roots l m) where
-  pub found : (m ≡ 256 → ⊥) → NextOpen n roots l m
+module _ {n : ℕ} {opened : List ℕ} {l m : ℕ} (F : NextBelow n opened l m) where
+  pub found : (m ≡ 256 → ⊥) → NextOpen n opened l m
   found ne = by-cases F (λ N. N) (λ w. absurd (ne (w .0)))
 
-  pub found-none : m ≡ 256 → l < 256 → NoneOpen n roots l
+  pub found-none : m ≡ 256 → l < 256 → NoneOpen n opened l
   found-none e h = by-cases F (λ N. absurd (omega (arith, N .lower))) (λ w. w .1)

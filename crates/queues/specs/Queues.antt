@@ -1,93 +1,125 @@
--- The queues of the levels on the lists that their functions are lent, as a state of the flood.
-use Prim.Native.Nat.{ℕ, _≤_, _<_}
-use mathlib.Core.Bool.{cond}
+-- The queues of the levels and the numbers of the nodes, on the lists that their functions are lent.
+use Prim.Native.Nat.{ℕ, suc, _≤_, _<_}
 use mathlib.Core.List.{List}
 use mathlib.Core.Logic.{_⊎_}
 use mathlib.Core.Path.{_≡_}
-use lib.Dec.{eqb}
 use lib.ListN.{getD, length}
-use Rattle.levels.specs.Workspace.{Sized, parent-of, order-of}
-use Rattle.flooding.specs.Flooding.{State, Pushed, Closed}
+use Rattle.causes.specs.Bounds.{most-pixels}
+use Rattle.levels.specs.Tables.{Changed}
+use Rattle.levels.specs.Workspace.{Sized, number-at, closed-of, order-of, up-of}
+use Rattle.flooding.specs.Flooding.{State}
+use Rattle.flooding.specs.Numbers.{Numbers, Numbering, Shutting}
 use Rattle.queues.specs.Marks.{Marked}
 
--- the words of a workspace, the heads and the tails of the levels' queues, and the roots of the open nodes with the set of the open levels
+-- the words of a workspace, the heads and the tails of the levels' queues, and the open nodes: the number of each level's, the set of
+-- the open levels, how many numbers are taken and how many nodes are closed
 pub record Lists : Type 0 where
   pub words : List ℕ
   pub heads : List ℕ
   pub tails : List ℕ
-  pub roots : List ℕ
+  pub opened : List ℕ
 
 abbrev pub lists : List ℕ → List ℕ → List ℕ → List ℕ → Lists
-lists ws heads tails roots = record { words = ws; heads = heads; tails = tails; roots = roots }
+lists ws heads tails opened = record { words = ws; heads = heads; tails = tails; opened = opened }
 
--- the state that they hold
-abbrev pub state-of : ℕ → Lists → State
-state-of n s =
+abbrev pub taken-of : List ℕ → ℕ
+taken-of opened = getD opened 260 0
+
+abbrev pub done-of : List ℕ → ℕ
+done-of opened = getD opened 261 0
+
+-- the numbers that they hold
+abbrev pub numbers-of : ℕ → List ℕ → List ℕ → Numbers
+numbers-of n ws opened =
     record {
-      par = parent-of (s .words);
+      num = number-at ws;
+      up = up-of n ws;
+      closed = closed-of n ws;
+      open-at = λ (k : ℕ). getD opened k 0;
+      taken = taken-of opened;
+      done = done-of opened;
+    }
+
+-- the state that they hold, with the parents and the roots that the numbers stand for
+abbrev pub state-of : ℕ → (ℕ → ℕ) → (ℕ → ℕ) → Lists → State
+state-of n par root s =
+    record {
+      par = par;
       ord = order-of n (s .words);
       head = λ (k : ℕ). getD (s .heads) k 0;
       tail = λ (k : ℕ). getD (s .tails) k 0;
-      root = λ (k : ℕ). getD (s .roots) k 0;
+      root = root;
     }
 
--- the root of an open level, or q, which opens it
-abbrev pub root-or : ℕ → ℕ → ℕ → ℕ
-root-or root n q = cond (eqb root n) q root
+-- a node of level l is open, or a number is left for one
+pub record Nameable (n l : ℕ) (opened : List ℕ) : Type 0 where
+  pub small : n ≤ most-pixels
+  pub level : l < 256
+  pub held : getD opened l 0 ≤ n
+  pub left : getD opened l 0 ≡ n → taken-of opened < n
+  pub wide : length opened ≡ 262
+  pub marks : Marked n opened
 
--- there is room for q at the end of the run of level l
-pub record Fitting (n q l : ℕ) (ws tails roots : List ℕ) : Type 0 where
+-- k is the number of the open node of level l; where none was open it is the next
+pub record Naming (n l : ℕ) (opened : List ℕ) (k : ℕ) (opened' : List ℕ) : Type 0 where
+  pub which :
+      ((getD opened l 0 < n) × (k ≡ getD opened l 0) × (taken-of opened' ≡ taken-of opened))
+      ⊎ ((getD opened l 0 ≡ n) × (k ≡ taken-of opened) × (taken-of opened' ≡ suc (taken-of opened)))
+  pub open-at : Changed 256 (λ j. getD opened j 0) (λ j. getD opened' j 0) l k
+  pub done : done-of opened' ≡ done-of opened
+  pub wide : length opened' ≡ 262
+  pub marks : Marked n opened'
+
+-- there is room for q at the end of the run of level l, and a number for it
+pub record Fitting (n q l : ℕ) (ws tails opened : List ℕ) : Type 0 where
   pub sized : Sized n ws
   pub within : q < n
-  pub level : l < 256
   pub free : getD tails l 0 < n
-  pub root : getD roots l 0 ≤ n
   pub wide-tails : length tails ≡ 256
-  pub wide-roots : length roots ≡ 260
-  pub marks : Marked n roots
+  pub nameable : Nameable n l opened
 
--- q stands at the end of the run of level l, whatever the heads are
-pub record Placing (n q l : ℕ) (ws tails roots ws' tails' roots' : List ℕ) : Type 0 where
+-- q stands at the end of the run of level l, and has taken a number
+pub record Placing (n q l : ℕ) (ws tails opened ws' tails' opened' : List ℕ) : Type 0 where
   pub wide-tails : length tails' ≡ 256
-  pub wide-roots : length roots' ≡ 260
-  pub marks : Marked n roots'
-  pub step :
-      (heads : List ℕ)
-      → Pushed n l q (root-or (getD roots l 0) n q) (state-of n (lists ws heads tails roots))
-      (state-of n (lists ws' heads tails' roots'))
+  pub wide-opened : length opened' ≡ 262
+  pub marks : Marked n opened'
+  pub numbering : Numbering n l q (number-at ws' q) (numbers-of n ws opened) (numbers-of n ws' opened')
+  pub ord : Changed n (order-of n ws) (order-of n ws') (getD tails l 0) q
+  pub tail : Changed 256 (λ k. getD tails k 0) (λ k. getD tails' k 0) l (suc (getD tails l 0))
 
 -- no level below l is open
 abbrev pub NoneOpen : ℕ → List ℕ → ℕ → Type 0
-NoneOpen n roots l = (k : ℕ) → k < l → getD roots k 0 ≡ n
+NoneOpen n opened l = (k : ℕ) → k < l → getD opened k 0 ≡ n
 
 -- m is the brightest open level below l
-pub record NextOpen (n : ℕ) (roots : List ℕ) (l m : ℕ) : Type 0 where
+pub record NextOpen (n : ℕ) (opened : List ℕ) (l m : ℕ) : Type 0 where
   pub lower : m < l
-  pub open-here : getD roots m 0 ≡ n → ⊥
-  pub next : (k : ℕ) → m < k → k < l → getD roots k 0 ≡ n
+  pub open-here : getD opened m 0 ≡ n → ⊥
+  pub next : (k : ℕ) → m < k → k < l → getD opened k 0 ≡ n
 
 -- the search below level l answers m: the brightest open level there, 256 where there is none
 abbrev pub NextBelow : ℕ → List ℕ → ℕ → ℕ → Type 0
-NextBelow n roots l m = NextOpen n roots l m ⊎ ((m ≡ 256) × NoneOpen n roots l)
+NextBelow n opened l m = NextOpen n opened l m ⊎ ((m ≡ 256) × NoneOpen n opened l)
 
 -- level l is open, and its node can be closed
-pub record Closable (n : ℕ) (ws roots : List ℕ) (l : ℕ) : Type 0 where
+pub record Closable (n : ℕ) (ws opened : List ℕ) (l : ℕ) : Type 0 where
   pub sized : Sized n ws
-  pub wide-roots : length roots ≡ 260
-  pub marks : Marked n roots
+  pub wide : length opened ≡ 262
+  pub marks : Marked n opened
   pub level : l < 256
-  pub open-here : getD roots l 0 < n
-  pub within : (k : ℕ) → k < 256 → getD roots k 0 ≤ n
+  pub open-here : getD opened l 0 < n
+  pub within : (k : ℕ) → k < 256 → getD opened k 0 ≤ n
+  pub left : done-of opened < n
 
--- the node of level l is closed below that of level m, whatever the heads and the tails are
-pub record ClosedBelow (n : ℕ) (ws roots ws' roots' : List ℕ) (l m : ℕ) : Type 0 where
-  pub next-open : NextOpen n roots l m
-  pub wide-roots : length roots' ≡ 260
-  pub marks : Marked n roots'
-  pub step :
-      (heads tails : List ℕ) → Closed n l m (state-of n (lists ws heads tails roots)) (state-of n (lists ws' heads tails roots'))
+-- the node of level l is closed, its parent's number is p, and the queues stay
+pub record Shut (n : ℕ) (ws opened ws' opened' : List ℕ) (l p : ℕ) : Type 0 where
+  pub wide : length opened' ≡ 262
+  pub marks : Marked n opened'
+  pub shutting : Shutting n l (getD opened l 0) p (numbers-of n ws opened) (numbers-of n ws' opened')
+  pub ord : (i : ℕ) → i < n → order-of n ws' i ≡ order-of n ws i
 
--- the node of level l is closed, and m is the next level; the last node's words stay
+-- the node of level l is closed below that of level m; the last, where m is 256, is its own parent
 abbrev pub ClosedTo : ℕ → List ℕ → List ℕ → List ℕ → List ℕ → ℕ → ℕ → Type 0
-ClosedTo n ws roots ws' roots' l m =
-    ClosedBelow n ws roots ws' roots' l m ⊎ ((m ≡ 256) × NoneOpen n roots l × (ws' ≡ ws))
+ClosedTo n ws opened ws' opened' l m =
+    (NextOpen n opened l m × Shut n ws opened ws' opened' l (getD opened m 0))
+    ⊎ ((m ≡ 256) × NoneOpen n opened l × Shut n ws opened ws' opened' l (getD opened l 0))

@@ -1,37 +1,42 @@
-// The queues of the levels: each level has a run of part 3, a head and a tail in it, and the root of its open node. The four words after
-// the roots are the set of the open levels, one bit a level.
-ghost use mathlib.Core.Path.{_≡_};
+// The queues of the levels: each level has a run of part 3, a head and a tail in it, and the number of its open node. After the numbers
+// of the open nodes stand four words for the set of the open levels, one bit a level, how many numbers are taken, and how many nodes
+// are closed.
 ghost use Prim.Native.Nat.{_<_};
 ghost use Rattle.queues.specs.Marks.{Marked, Highest};
-ghost use Rattle.queues.specs.Queues.{root-or, Fitting, Placing, NextBelow, Closable, ClosedTo};
+ghost use Rattle.queues.specs.Queues.{Nameable, Naming, Fitting, Placing, NextBelow, Closable, ClosedTo};
 
-fn root_or(root: usize, n: usize, q: usize) -> usize
-    ensures { λ r. ⌜ r ≡ root-or root n q ⌝ }
+// The number of the open node of level l. Where none is open the next number opens one.
+fn take_number(n: usize, l: usize, opened: &mut [usize; 262]) -> usize
+    requires { ⌜ Nameable n l (now opened) ⌝ }
+    ensures { λ k. ⌜ Naming n l (now (opened .entry)) k (now (opened .exit)) ⌝ }
 {
-    if root == n {
-        return q;
+    let held = opened[l];
+    if held != n {
+        return held;
     }
-    root
+    let k = opened[260];
+    opened[l] = k;
+    opened[256 + l / 64] = opened[256 + l / 64] | (1 << (l % 64));
+    opened[260] = k + 1;
+    k
 }
 
-// Puts q at the end of the run of level l. Its parent is the level's root, itself where no node is open.
+// Puts q at the end of the run of level l, and notes the number of its node in part 1.
 pub fn push(
     n: usize,
     q: usize,
     l: usize,
     ws: &mut [u32],
     tails: &mut [usize; 256],
-    roots: &mut [usize; 260],
+    opened: &mut [usize; 262],
 )
-    requires { ⌜ Fitting n q l (now ws) (now tails) (now roots) ⌝ }
-    ensures { λ _. ⌜ Placing n q l (now (ws .entry)) (now (tails .entry)) (now (roots .entry)) (now (ws .exit)) (now (tails .exit)) (now (roots .exit)) ⌝ }
+    requires { ⌜ Fitting n q l (now ws) (now tails) (now opened) ⌝ }
+    ensures { λ _. ⌜ Placing n q l (now (ws .entry)) (now (tails .entry)) (now (opened .entry)) (now (ws .exit)) (now (tails .exit)) (now (opened .exit)) ⌝ }
 {
-    let r = root_or(roots[l], n, q);
+    let k = take_number(n, l, opened);
     let t = tails[l];
-    roots[l] = r;
-    roots[256 + l / 64] = roots[256 + l / 64] | (1 << (l % 64));
     tails[l] = t + 1;
-    ws[q] = r as u32;
+    ws[q] = k as u32;
     ws[2 * n + t] = q as u32;
 }
 
@@ -45,38 +50,43 @@ fn highest(word: usize) -> usize
 
 // The brightest open level below the level named, 256 where there is none: the bits below it in its own word are looked at, then the
 // darker words.
-fn open_below(level: usize, n: usize, roots: &[usize; 260]) -> usize
+fn open_below(level: usize, n: usize, opened: &[usize; 262]) -> usize
     requires { ⌜ level < 256 ⌝ }
-    requires { ⌜ Marked n (now roots) ⌝ }
-    ensures { λ r. ⌜ NextBelow n (now (roots .entry)) level r ⌝ }
+    requires { ⌜ Marked n (now opened) ⌝ }
+    ensures { λ r. ⌜ NextBelow n (now (opened .entry)) level r ⌝ }
 {
     let mut i = level / 64;
-    let own = roots[256 + i] % (1 << (level % 64));
+    let own = opened[256 + i] % (1 << (level % 64));
     if own != 0 {
         return 64 * i + highest(own);
     }
     while i > 0 {
         i -= 1;
-        if roots[256 + i] != 0 {
-            return 64 * i + highest(roots[256 + i]);
+        if opened[256 + i] != 0 {
+            return 64 * i + highest(opened[256 + i]);
         }
     }
     256
 }
 
-// Closes the node of the level named: its root's parent becomes the root of the brightest open level below. The answer is that level,
-// 256 where there is none and the root stays its own parent.
-pub fn close(n: usize, level: usize, ws: &mut [u32], roots: &mut [usize; 260]) -> usize
-    requires { ⌜ Closable n (now ws) (now roots) level ⌝ }
-    ensures { λ r. ⌜ ClosedTo n (now (ws .entry)) (now (roots .entry)) (now (ws .exit)) (now (roots .exit)) level r ⌝ }
+// Closes the node of the level named: its number is put at the end of the order of closing in part 2, and its parent's number, that of
+// the open node of the brightest open level below, among its words. The answer is that level, 256 where there is none and the node is
+// its own parent.
+pub fn close(n: usize, level: usize, ws: &mut [u32], opened: &mut [usize; 262]) -> usize
+    requires { ⌜ Closable n (now ws) (now opened) level ⌝ }
+    ensures { λ r. ⌜ ClosedTo n (now (ws .entry)) (now (opened .entry)) (now (ws .exit)) (now (opened .exit)) level r ⌝ }
 {
-    let m = open_below(level, n, roots);
-    let r = roots[level];
-    roots[level] = n;
-    roots[256 + level / 64] = roots[256 + level / 64] - (1 << (level % 64));
+    let m = open_below(level, n, opened);
+    let k = opened[level];
+    let i = opened[261];
+    opened[level] = n;
+    opened[256 + level / 64] = opened[256 + level / 64] - (1 << (level % 64));
+    opened[261] = i + 1;
+    ws[n + i] = k as u32;
     if m == 256 {
+        ws[3 * n + 3 * k + 1] = k as u32;
         return 256;
     }
-    ws[r] = roots[m] as u32;
+    ws[3 * n + 3 * k + 1] = opened[m] as u32;
     m
 }

@@ -1,48 +1,60 @@
-// The pass that writes the representatives: the parent words of the record, and the representatives by rising level in part 3.
+// The pass that writes the record of the tree from the words of the nodes, and notes the representatives in order of position.
 ghost use mathlib.Core.Bool.{cond};
 ghost use mathlib.Core.Path.{_≡_};
-ghost use Rattle.representatives.specs.Representatives.{Writable, written-at, tails-at, is-first, Representable, Represented};
+ghost use Prim.Native.Nat.{_≤_};
+ghost use lib.Dec.{eqb};
+ghost use Rattle.causes.specs.Bounds.{most-pixels};
+ghost use Rattle.representatives.specs.Representatives.{Writable, is-lowest, written-at, Representable, Represented};
 
-// The parent word of the pixel q, the first that is not written yet. That of a representative is put at the end of its level's run
-// in part 3, and its word in part 2 is the accumulator of its own pixels. Answers 1 for a representative, else 0.
-fn write_pixel(picture: &[u8], q: usize, ws: &mut [u32], tails: &mut [usize; 256]) -> usize
-    requires { ⌜ Writable (now picture) q (now ws) (now tails) ⌝ }
-    ensures { λ r. ⌜ r ≡ cond (is-first (now (picture .entry)) q (now (ws .entry))) 1 0 ⌝ }
-    ensures { λ _. ⌜ now (ws .exit) ≡ written-at (now (picture .entry)) q (now (ws .entry)) (now (tails .entry)) ⌝ }
-    ensures { λ _. ⌜ now (tails .exit) ≡ tails-at (now (picture .entry)) q (now (ws .entry)) (now (tails .entry)) ⌝ }
+// 1 if low is q, which is not below it, else 0. Here and in `chosen` there is arithmetic in place of an `if`, since a choice that depends
+// on a load must not become a branch: the loads would follow it, and no processor can guess which pixels are representatives.
+fn one_if_same(low: usize, q: usize) -> u32
+    requires { ⌜ low ≤ q ⌝ }
+    requires { ⌜ q ≤ most-pixels ⌝ }
+    ensures { λ r. ⌜ r ≡ cond (eqb low q) 1 0 ⌝ }
 {
-    let n = picture.len();
-    let r = own_pixels::node_root(picture, q, ws[q] as usize);
-    let first = ws[3 * n + r];
-    if first as usize != q {
-        ws[q] = first;
-        return 0;
-    }
-    let p = ws[r] as usize;
-    let parent = ws[3 * n + p];
-    let own = ws[4 * n + r];
-    let l = picture[q] as usize;
-    let t = tails[l];
-    ws[q] = parent;
-    ws[n + q] = own;
-    ws[2 * n + t] = q as u32;
-    tails[l] = t + 1;
-    1
+    ((4294967296 - (q - low)) / 4294967296) as u32
 }
 
-// The parent words of the record in order of position, a node's lowest own pixel no later than its root, and the list of the
-// representatives, whose runs start where it is said. Answers the number of nodes.
-pub fn write_record(picture: &[u8], starts: [usize; 256], ws: &mut [u32]) -> usize
-    requires { ⌜ Representable (now picture) (now ws) starts ⌝ }
-    ensures { λ r. ⌜ Represented (now (picture .entry)) (now (ws .entry)) (now (ws .exit)) r ⌝ }
+// The word a for 1, the word b for 0.
+fn chosen(one: u32, a: u32, b: u32) -> u32
+    requires { ⌜ one ≤ 1 ⌝ }
+    ensures { λ r. ⌜ r ≡ cond (eqb one 1) a b ⌝ }
 {
-    let n = picture.len();
-    let mut tails = starts;
-    let mut nodes = 0;
+    a * one + b * (1 - one)
+}
+
+// The words of the pixel q, the first that is not written yet: the lowest own pixel of a node is its representative. Its parent word is
+// its parent's representative and its attribute word the node's attribute; any other pixel has its representative and 0. The pixel
+// is put at the end of the list in part 3. Answers 1 for a representative, else 0.
+fn write_pixel(n: usize, q: usize, listed: usize, ws: &mut [u32]) -> usize
+    requires { ⌜ Writable n q listed (now ws) ⌝ }
+    ensures { λ r. ⌜ r ≡ cond (is-lowest n (now (ws .entry)) q) 1 0 ⌝ }
+    ensures { λ _. ⌜ now (ws .exit) ≡ written-at n q listed (now (ws .entry)) ⌝ }
+{
+    let node = 3 * n + 3 * ws[q] as usize;
+    let low = ws[node];
+    let up = ws[node + 1] as usize;
+    let held = ws[node + 2];
+    let parent = ws[3 * n + 3 * up];
+    let one = one_if_same(low as usize, q);
+    ws[q] = chosen(one, parent, low);
+    ws[n + q] = chosen(one, held, 0);
+    ws[2 * n + listed] = q as u32;
+    one as usize
+}
+
+// The words of the record, straight over the positions. Part 3 receives the representatives: the list's length grows by 1 for a
+// representative and by 0 for any other pixel, whose place the next one takes. Answers the number of nodes.
+pub fn write_record(n: usize, ws: &mut [u32]) -> usize
+    requires { ⌜ Representable n (now ws) ⌝ }
+    ensures { λ r. ⌜ Represented n (now (ws .entry)) (now (ws .exit)) r ⌝ }
+{
+    let mut listed = 0;
     let mut q = 0;
     while q < n {
-        nodes += write_pixel(picture, q, ws, &mut tails);
+        listed += write_pixel(n, q, listed, ws);
         q += 1;
     }
-    nodes
+    listed
 }

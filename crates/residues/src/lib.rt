@@ -42,8 +42,9 @@ pub fn map(
             return calls::Verdict::Refused(cause);
         }
         calls::Verdict::Accepted => {
-            let nodes = max_tree::build_ordered(picture, grid, attribute, workspace);
-            map_passes::write_maps(picture, steps, nodes as usize, workspace, residue, index);
+            let nodes = max_tree::build_nodes(picture, grid, attribute, workspace);
+            map_passes::write_maps(picture, steps, nodes, workspace, residue, index);
+            max_tree::write_ordered(picture, workspace);
             max_tree::clear_scratch(picture.len(), workspace);
             return calls::Verdict::Accepted;
         }

@@ -6,4 +6,3 @@ pub mod Forest
 pub mod Record
 pub mod Words
 pub mod Reading
-pub mod Relabel

@@ -1,22 +1,21 @@
 -- The record of the tree read off parent words that stand for it: a representative is the lowest position with the same node
 -- root, and the parent's representative that of the root's parent word. Assumes that neighbours are mutual.
 use Prim.Native.Nat.{ℕ, _<_, min}
-use mathlib.Core.Bool.{true, cond, _&&_}
+use mathlib.Core.Bool.{true, _&&_}
 use mathlib.Core.Logic.{⊎-elim}
 use mathlib.Core.Path.{_≡_, sym, ap, _∙_}
 use native.Mathlib.Nat.{le-refl}
 use native.Mathlib.Omega.{arith}
 use lib.Dec.{eqb, leb}
 use borrow.Author.Tests.{leb-true, le-leb, eqb-true, eq-eqb}
-use Rattle.sets.specs.Sets.{count, member}
+use Rattle.sets.specs.Sets.{member}
 use Rattle.sets.proofs.Tests.{and-left, and-right, and-both, same-truth, le-or-lt}
-use Rattle.sets.proofs.Laws.{count-ext}
 use Rattle.sets.proofs.Gather.{gather-ext}
 use Rattle.connected.specs.Component.{Adjacency, Symmetric}
 use Rattle.opening.specs.Opening.{component-at}
 use Rattle.opening.specs.Node.{node}
 use Rattle.opening.proofs.Components.{component-grey}
-use Rattle.tree.specs.Tree.{own, lowest-own, representative, parent-representative, is-representative, parent-word, number-of-nodes}
+use Rattle.tree.specs.Tree.{own, lowest-own, representative, parent-representative}
 use Rattle.tree.specs.Forest.{Forest, node-root, lowest, top}
 use Rattle.tree.proofs.Together.{together-trans, together-below, together-down}
 use Rattle.tree.proofs.Parents.{Over, Parent, Root, parent-representative-eq, root-representative}
@@ -106,19 +105,6 @@ module _ (n : ℕ) (adj : Adjacency) (symm : Symmetric adj) (g par : ℕ → ℕ
       ∙ representative-lowest (par r) (forest .within r c)
       ∙ ap (lowest n g par) (node-root-self g par (par r) (forest .root r c)))
       last
-
-  pub parent-word-lowest : (p : ℕ) → p < n → parent-word n adj g p ≡ cond (eqb (lowest n g par (node-root g par p)) p) (lowest n g par (par (node-root g par p))) (lowest n g par (node-root g par p))
-  unfolding parent-word is-representative
-  parent-word-lowest p b = rw (representative-lowest p b, parent-lowest p b)
-
-  pub number-lowest : number-of-nodes n adj g ≡ count n (λ (p : ℕ). eqb (lowest n g par (node-root g par p)) p)
-  unfolding number-of-nodes is-representative
-  number-lowest =
-      count-ext
-      n
-      (is-representative n adj g)
-      (λ (p : ℕ). eqb (lowest n g par (node-root g par p)) p)
-      (λ p b. ap (λ (r : ℕ). eqb r p) (representative-lowest p b))
 
   -- the pixels of a node are those whose last ancestor at its level is its node root
   pub node-top : (p q : ℕ) → p < n → q < n → member (node n adj g p) q ≡ (leb (g p) (g q) && eqb (top g par (g p) q) (node-root g par p))

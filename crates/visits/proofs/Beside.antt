@@ -7,9 +7,7 @@ use mathlib.Core.Logic.{_⊎_, inl, inr}
 use mathlib.Core.Path.{_≡_, refl, ap, _∙_}
 use native.Mathlib.Nat.{mod-le, mul-mod-right}
 use native.Mathlib.Omega.{arith}
-use lib.Dec.{eqb}
 use lib.ListN.{length}
-use borrow.Author.Tests.{eq-eqb}
 use Rattle.sets.specs.Sets.{Positions}
 use Rattle.sets.proofs.Tests.{or-left, or-right}
 use Rattle.grid.specs.Neighbours.{edge-neighbours, adjacent}
@@ -43,6 +41,32 @@ all-around grid p q e = sides (side-of (grid .width) p q e)
     sides (inr (inl e)) = or-left _ _ (or-left _ _ (or-right (above grid p q) _ e))
     sides (inr (inr e)) = or-left _ _ (or-left _ _ (or-left (above grid p q) _ e))
 
+-- the pixel that a side has, and that it has no other
+module _ (grid : Grid) (p : ℕ) where
+  pub one-above : grid .width ≤ p → above grid p (p - grid .width) ≡ true
+  one-above later = is-next-in-column (grid .width) (p - grid .width) p (omega arith)
+
+  pub is-above : (q : ℕ) → above grid p q ≡ true → q ≡ p - grid .width
+  is-above q e = omega (arith, below-is (grid .width) q p e)
+
+  pub one-below : below grid p (p + grid .width) ≡ true
+  one-below = is-next-in-column (grid .width) p (p + grid .width) refl
+
+  pub is-below : (q : ℕ) → below grid p q ≡ true → q ≡ p + grid .width
+  is-below = below-is (grid .width) p
+
+  pub one-left : (p % grid .width ≡ 0 → ⊥) → left-of grid p (p - 1) ≡ true
+  one-left later = is-next-in-row (grid .width) (p - 1) p (omega (arith, mod-le p (grid .width))) later
+
+  pub is-left : (q : ℕ) → left-of grid p q ≡ true → q ≡ p - 1
+  is-left q e = omega (arith, right-is (grid .width) q p e)
+
+  pub one-right : 0 < grid .width → (p % grid .width + 1 ≡ grid .width → ⊥) → right-of grid p (p + 1) ≡ true
+  one-right wide earlier = is-next-in-row (grid .width) p (p + 1) refl (row-goes-on (grid .width) p wide earlier)
+
+  pub is-right : (q : ℕ) → right-of grid p q ≡ true → q ≡ p + 1
+  is-right = right-is (grid .width) p
+
 module _ {grid : Grid} {picture : List ℕ} {s : Lists} {l p : ℕ} (S : Standing grid picture s l p) where
   abbrev w : ℕ
   w = grid .width
@@ -53,7 +77,7 @@ module _ {grid : Grid} {picture : List ℕ} {s : Lists} {l p : ℕ} (S : Standin
 
   pub visit-above : w ≤ p → Visiting grid picture s l (p - w)
   visit-above later =
-      visiting S (p - w) (omega (arith, standing-in S)) (beside grid p (p - w) (to-above w p (p - w) (is-next-in-column w (p - w) p (omega arith))))
+      visiting S (p - w) (omega (arith, standing-in S)) (beside grid p (p - w) (to-above w p (p - w) (one-above grid p later)))
 
   -- below: none in the last row
   pub none-below : length picture - p ≤ w → Visited grid picture s s l l (below grid p)
@@ -61,7 +85,7 @@ module _ {grid : Grid} {picture : List ℕ} {s : Lists} {l p : ℕ} (S : Standin
 
   pub visit-below : w < length picture - p → Visiting grid picture s l (p + w)
   visit-below earlier =
-      visiting S (p + w) (omega arith) (beside grid p (p + w) (to-below w p (p + w) (is-next-in-column w p (p + w) refl)))
+      visiting S (p + w) (omega arith) (beside grid p (p + w) (to-below w p (p + w) (one-below grid p)))
 
   -- left: none in the first column
   pub none-left : p % w ≡ 0 → Visited grid picture s s l l (left-of grid p)
@@ -69,8 +93,7 @@ module _ {grid : Grid} {picture : List ℕ} {s : Lists} {l p : ℕ} (S : Standin
 
   pub visit-left : (p % w ≡ 0 → ⊥) → Visiting grid picture s l (p - 1)
   visit-left later =
-      let some : 0 < p = omega (arith, mod-le p w) in
-      visiting S (p - 1) (omega (arith, standing-in S)) (beside grid p (p - 1) (to-left w p (p - 1) (is-next-in-row w (p - 1) p (omega arith) later)))
+      visiting S (p - 1) (omega (arith, standing-in S)) (beside grid p (p - 1) (to-left w p (p - 1) (one-left grid p later)))
 
   -- right: none in the last column; the rows are whole
   pub none-right : p % w + 1 ≡ w → Visited grid picture s s l l (right-of grid p)
@@ -81,18 +104,5 @@ module _ {grid : Grid} {picture : List ℕ} {s : Lists} {l p : ℕ} (S : Standin
   visit-right earlier =
       let on : (p + 1) % w ≡ 0 → ⊥ = row-goes-on w p (S .ready .wide) earlier in
       let whole : length picture % w ≡ 0 = rw (S .ready .whole) (mul-mod-right w (grid .height)) in
-      visiting S (p + 1) (row-in w p _ (standing-in S) whole on) (beside grid p (p + 1) (to-right w p (p + 1) (is-next-in-row w p (p + 1) refl on)))
-
--- the pixel that a side has
-module _ (grid : Grid) (p : ℕ) {n : ℕ} where
-  pub is-above : (q : ℕ) → q < n → above grid p q ≡ true → eqb (p - grid .width) q ≡ true
-  is-above q b e = eq-eqb _ q (omega (arith, below-is (grid .width) q p e))
-
-  pub is-below : (q : ℕ) → q < n → below grid p q ≡ true → eqb (p + grid .width) q ≡ true
-  is-below q b e = eq-eqb _ q (omega (arith, below-is (grid .width) p q e))
-
-  pub is-left : (q : ℕ) → q < n → left-of grid p q ≡ true → eqb (p - 1) q ≡ true
-  is-left q b e = eq-eqb _ q (omega (arith, right-is (grid .width) q p e))
-
-  pub is-right : (q : ℕ) → q < n → right-of grid p q ≡ true → eqb (p + 1) q ≡ true
-  is-right q b e = eq-eqb _ q (omega (arith, right-is (grid .width) p q e))
+      let one = one-right grid p (S .ready .wide) earlier in
+      visiting S (p + 1) (row-in w p _ (standing-in S) whole on) (beside grid p (p + 1) (to-right w p (p + 1) one))

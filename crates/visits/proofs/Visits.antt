@@ -3,33 +3,61 @@ use Prim.Native.Nat.{ℕ, suc, _≤_, _<_}
 use mathlib.Core.Bool.{true, _||_}
 use mathlib.Core.List.{List}
 use mathlib.Core.Logic.{_⊎_}
-use mathlib.Core.Path.{_≡_, refl, sym, _∙_}
+use mathlib.Core.Path.{_≡_, refl, sym, ap, _∙_}
 use native.Mathlib.Omega.{arith}
 use lib.Dec.{eqb}
 use lib.ListN.{getD, length}
-use borrow.Author.Tests.{eqb-true}
+use borrow.Author.Tests.{eqb-true, eq-eqb}
 use Rattle.sets.specs.Sets.{Positions}
-use Rattle.sets.proofs.Tests.{or-cases}
+use Rattle.sets.proofs.Tests.{or-cases, or-right}
 use Rattle.grid.specs.Neighbours.{adjacent}
 use Rattle.grid.specs.declared.Grid.{Grid}
 use Rattle.levels.specs.Levels.{grey, entry-sum}
-use Rattle.levels.specs.Workspace.{parent-of}
-use Rattle.levels.proofs.Counts.{by-cases}
+use Rattle.levels.specs.Workspace.{number-at, order-of}
+use Rattle.levels.proofs.Counts.{by-cases, equal-or-not, below-or-not}
 use Rattle.levels.proofs.Tables.{sum-raised}
-use Rattle.flooding.proofs.Meeting.{met-sound, met-at, met-ord, keep-met, now-met, tail-le, tail-lt, reaches}
-use Rattle.queues.specs.Queues.{Lists, lists, Fitting, Placing}
-use Rattle.visits.specs.Visits.{head-pixel, Ready, Standing, Visiting, Visited}
+use Rattle.flooding.specs.Flooding.{Placed, Pushed}
+use Rattle.flooding.proofs.Meeting.{met-sound, met-at, met-ord, tail-le, tail-lt, reaches}
+use Rattle.flooding.proofs.Numbers.{taken-fits, pushed-number-fits, Renamed, named-pushed}
+use Rattle.queues.specs.Queues.{Lists, lists, numbers-of, state-of, Fitting, Placing}
+use Rattle.visits.specs.Visits.{head-pixel, Ready, Standing, StandsAt, Visiting, Visited, VisitedAround}
+
+-- a pixel in its queue, and the parents and roots that the numbers stand for then, are a step of the flood
+pub pushes :
+    {n q l : ℕ} {g par root : ℕ → ℕ} {ws tails opened ws' tails' opened' : List ℕ} (heads : List ℕ)
+    → Placing n q l ws tails opened ws' tails' opened'
+    → (N : Renamed n l q g par root (numbers-of n ws' opened'))
+    → Pushed n l q (N .r) (state-of n par root (lists ws heads tails opened))
+    (state-of n (N .par') (N .root') (lists ws' heads tails' opened'))
+pushes heads P N =
+    record {
+      root-is = N .root-is;
+      par = N .par-changed;
+      ord = P .ord;
+      tail = P .tail;
+      root = N .root-changed;
+      head = λ k. refl;
+    }
 
 -- the pixel where the flood stands, and the visits of its neighbours
 module _ {grid : Grid} {picture : List ℕ} {s : Lists} {l p : ℕ} (S : Standing grid picture s l p) where
-  pub standing-in : p < length picture
-  standing-in =
+  head-placed :
+      let R = S .ready in
+      Placed (length picture) (grey picture) (state-of (length picture) (R .par) (R .root) s) l (getD (s .heads) l 0)
+  head-placed =
       let R = S .ready in
       let A = R .at in
-      rw
-      (S .here)
-      at
-      (R .sound .placed l _ (A .level) (R .sound .low l (A .level)) (A .busy l (A .level) (A .open-here)) .within)
+      R .sound .placed l _ (A .level) (R .sound .low l (A .level)) (A .busy l (A .level) (A .open-here))
+
+  pub standing-in : p < length picture
+  standing-in = rw (S .here) at (head-placed .within)
+
+  -- its grey is the level
+  pub standing-grey : grey picture p ≡ l
+  standing-grey = rw (S .here) at (head-placed .grey)
+
+  pub stands-at : StandsAt grid picture s p
+  stands-at = rw standing-grey S
 
   pub visiting : (q : ℕ) → q < length picture → adjacent grid p q ≡ true → Visiting grid picture s l q
   visiting q h e = record { ready = S .ready; within = h; next = rw (S .here) e }
@@ -41,13 +69,14 @@ module _ {grid : Grid} {picture : List ℕ} {s : Lists} where
       let A = R .at in
       omega (arith, A .busy l (A .level) (A .open-here), tail-le (R .sound) l (A .level))
 
-  pub start-standing : {l : ℕ} → Ready grid picture s l → Standing grid picture s l (head-pixel (length picture) s l)
-  start-standing R = record { ready = R; here = refl }
+  -- the flood stands at the pixel at the head
+  pub stands : {l : ℕ} → Ready grid picture s l → StandsAt grid picture s (head-pixel (length picture) s l)
+  stands R = stands-at (record { ready = R; here = refl })
 
   -- nothing is stored
   pub stays :
       {l : ℕ} {side : Positions} → Ready grid picture s l
-      → ((x : ℕ) → x < length picture → side x ≡ true → parent-of (s .words) x < length picture)
+      → ((x : ℕ) → x < length picture → side x ≡ true → number-at (s .words) x < length picture)
       → Visited grid picture s s l l side
   stays R met =
       record {
@@ -58,6 +87,7 @@ module _ {grid : Grid} {picture : List ℕ} {s : Lists} where
         more = omega arith;
         raised = λ ne. absurd (ne refl);
         met = λ e. met;
+        to = λ ne. absurd (ne refl);
       }
 
   -- after a visit that stays, the same pixel is at the head
@@ -75,32 +105,21 @@ module _ {grid : Grid} {picture : List ℕ} {s : Lists} where
     pub same-words : Ready grid picture s l → length (s' .words) ≡ length (s .words)
     same-words R = U .ready .sized .words ∙ sym (R .sized .words)
 
-    -- another side within the first
-    pub on-side :
-        {side' : Positions} → ((x : ℕ) → x < length picture → side' x ≡ true → side x ≡ true) → Visited grid picture s s' l r side'
-    on-side sub =
-        record {
-          ready = U .ready;
-          same-heads = U .same-heads;
-          same-head = U .same-head;
-          kept = U .kept;
-          more = U .more;
-          raised = U .raised;
-          met = λ e x hx h. U .met e x hx (sub x hx h);
-        }
-
-    -- the flood moves up
-    pub leaves : {side' : Positions} → (r ≡ l → ⊥) → Visited grid picture s s' l r side'
-    leaves ne =
-        record {
-          ready = U .ready;
-          same-heads = U .same-heads;
-          same-head = U .same-head;
-          kept = U .kept;
-          more = U .more;
-          raised = U .raised;
-          met = λ e. absurd (ne e);
-        }
+  -- the visit of the only pixel on a side
+  pub on-side :
+      {s' : Lists} {l r q : ℕ} {side : Positions} → Visited grid picture s s' l r (eqb q)
+      → ((x : ℕ) → side x ≡ true → x ≡ q) → side q ≡ true → Visited grid picture s s' l r side
+  on-side {q = q} U only there =
+      record {
+        ready = U .ready;
+        same-heads = U .same-heads;
+        same-head = U .same-head;
+        kept = U .kept;
+        more = U .more;
+        raised = U .raised;
+        met = λ e x hx h. U .met e x hx (eq-eqb q x (sym (only x h)));
+        to = λ ne. rw (← eqb-true q _ (U .to ne)) there;
+      }
 
   -- one visit after another that stays
   pub visits :
@@ -116,67 +135,138 @@ module _ {grid : Grid} {picture : List ℕ} {s : Lists} where
         raised = λ ne. omega (arith, A .more, B .raised ne);
         met = λ e x hx h.
             by-cases (or-cases (side₁ x) (side₂ x) h) (λ a. B .kept x hx (A .met refl x hx a)) (λ b. B .met e x hx b);
+        to = λ ne. or-right (side₁ _) _ (B .to ne);
       }
 
+  module _ {s' : Lists} {l r p : ℕ} {side : Positions} (U : Visited grid picture s s' l r side) (S : Standing grid picture s l p) where
+    -- the flood moves up to the pixel on a side
+    pub climbs : {q : ℕ} → (r ≡ l → ⊥) → head-pixel (length picture) s' r ≡ q → VisitedAround grid picture s s' p q
+    climbs {q} ne here =
+        let T : Standing grid picture s' r q = record { ready = U .ready; here = here } in
+        record {
+          stands = stands-at T;
+          same-heads = U .same-heads;
+          more = U .more;
+          raised = λ other. U .raised ne;
+          met = λ e. absurd (ne (sym (standing-grey T) ∙ ap (grey picture) e ∙ standing-grey S));
+        }
+
+    -- the flood stays, and every neighbour is on the sides visited
+    pub all-met : r ≡ l → ((x : ℕ) → adjacent grid p x ≡ true → side x ≡ true) → VisitedAround grid picture s s' p p
+    all-met e sub =
+        record {
+          stands = stands-at (still S (settle U e));
+          same-heads = U .same-heads;
+          more = U .more;
+          raised = λ ne. absurd (ne refl);
+          met = λ same x hx h. U .met e x hx (sub x h);
+        }
+
+  -- the root of an open level is a pixel of it
+  pub root-greys :
+      {l : ℕ} (R : Ready grid picture s l) → (k : ℕ) → k < 256 → R .root k < length picture → grey picture (R .root k) ≡ k
+  root-greys R k h o = R .sound .open-root k h o .grey
+
   module _ {l q : ℕ} (U : Visiting grid picture s l q) where
-    pub already : (parent-of (s .words) q ≡ length picture → ⊥) → Visited grid picture s s l l (eqb q)
+    abbrev R : Ready grid picture s l
+    R = U .ready
+
+    pub already : (number-at (s .words) q ≡ length picture → ⊥) → Visited grid picture s s l l (eqb q)
     already ne =
-        stays (U .ready)
-        (λ x hx h.
-        let e = eqb-true q x h in
-        let in-range = U .ready .sound .range q (U .within) in
-        rw (sym e) (omega arith))
+        stays R (λ x hx h. let e = eqb-true q x h in rw (sym e) (omega (arith, R .named .range q (U .within))))
 
-    pub fits : parent-of (s .words) q ≡ length picture → Fitting (length picture) q (grey picture q) (s .words) (s .tails) (s .roots)
-    fits new =
-        let R = U .ready in
-        record {
-          sized = R .sized;
-          within = U .within;
-          level = R .bytes q;
-          free = tail-lt (R .sound) (R .bytes q) (U .within) new;
-          root = R .sound .roots (grey picture q) (R .bytes q);
-          wide-tails = R .wide-tails;
-          wide-roots = R .wide-roots;
-          marks = R .marks;
-        }
+    module _ (new : number-at (s .words) q ≡ length picture) where
+      unmet : R .par q ≡ length picture
+      unmet = R .named .unmet q (U .within) new
 
-    pub queued :
-        {ws' tails' roots' : List ℕ} {r : ℕ} → parent-of (s .words) q ≡ length picture → length ws' ≡ length (s .words)
-        → Placing (length picture) q (grey picture q) (s .words) (s .tails) (s .roots) ws' tails' roots'
-        → ((l < grey picture q) × (r ≡ grey picture q)) ⊎ ((grey picture q ≤ l) × (r ≡ l))
-        → Visited grid picture s (lists ws' (s .heads) tails' roots') l r (eqb q)
-    queued {ws' = ws'} {tails' = tails'} {roots' = roots'} {r = r} new same-length P which =
-        let R = U .ready in
-        let A = R .at in
-        let step = P .step (s .heads) in
-        let raise : entry-sum tails' 256 ≡ suc (entry-sum (s .tails) 256) =
-        sum-raised 256 _ _ (grey picture q) (R .bytes q) (step .tail .here) (step .tail .there)
-        in
-        record {
-          ready =
+      pub fits : Fitting (length picture) q (grey picture q) (s .words) (s .tails) (s .opened)
+      fits =
+          record {
+            sized = R .sized;
+            within = U .within;
+            free = tail-lt (R .sound) (R .bytes q) (U .within) unmet;
+            wide-tails = R .wide-tails;
+            nameable =
+                record {
+                  small = R .sized .small;
+                  level = R .bytes q;
+                  held = R .named .opens (grey picture q) (R .bytes q);
+                  left = λ e. taken-fits (R .named) (U .within) new;
+                  wide = R .wide-opened;
+                  marks = R .marks;
+                };
+          }
+
+      module _ {ws' tails' opened' : List ℕ} (same-length : length ws' ≡ length (s .words))
+          (P : Placing (length picture) q (grey picture q) (s .words) (s .tails) (s .opened) ws' tails' opened')
+        where
+          named-fits : number-at ws' q < length picture
+          named-fits = pushed-number-fits (R .named) (P .numbering) (U .within) new
+
+          kept : (x : ℕ) → x < length picture → number-at (s .words) x < length picture → number-at ws' x < length picture
+          kept x hx h =
+              by-cases
+              (equal-or-not x q)
+              (λ e. rw e named-fits)
+              (λ ne. rw (P .numbering .num .there x hx ne) h)
+
+          renamed :
+              Renamed (length picture) (grey picture q) q (grey picture) (R .par) (R .root)
+              (numbers-of (length picture) ws' opened')
+          renamed = named-pushed (R .named) (P .numbering) (U .within) (R .bytes q) refl new (root-greys R)
+
+          -- the queue of a level that was not open was empty: q is at its head
+          first-here : l < grey picture q → order-of (length picture) ws' (getD (s .heads) (grey picture q) 0) ≡ q
+          first-here brighter =
+              let closed : length picture ≤ R .root (grey picture q) =
+              by-cases
+              (below-or-not (R .root (grey picture q)) (length picture))
+              (λ o. absurd (omega (arith, R .at .top (grey picture q) (R .bytes q) o)))
+              (λ ge. ge)
+              in
+              rw (R .sound .idle (grey picture q) (R .bytes q) closed) (P .ord .here)
+
+          pub queued :
+              {r : ℕ} → ((l < grey picture q) × (r ≡ grey picture q)) ⊎ ((grey picture q ≤ l) × (r ≡ l))
+              → Visited grid picture s (lists ws' (s .heads) tails' opened') l r (eqb q)
+          queued {r} which =
+              let A = R .at in
+              let N = renamed in
+              let step = pushes (s .heads) P N in
+              let raise : entry-sum tails' 256 ≡ suc (entry-sum (s .tails) 256) =
+              sum-raised 256 _ _ (grey picture q) (R .bytes q) (P .tail .here) (P .tail .there)
+              in
               record {
-                bytes = R .bytes;
-                whole = R .whole;
-                wide = R .wide;
-                sized = record { words = same-length ∙ R .sized .words; small = R .sized .small };
-                wide-heads = R .wide-heads;
-                wide-tails = P .wide-tails;
-                wide-roots = P .wide-roots;
-                marks = P .marks;
-                sound =
-                    met-sound (R .sound) (R .bytes q) (U .within) refl new step (λ x h. R .bytes x)
-                    (reaches (R .sound) A refl (U .within) (U .next));
-                at = met-at (R .sound) (R .bytes q) (U .within) refl new step l r A which;
-              };
-          same-heads = refl;
-          same-head =
-              met-ord (R .sound) (R .bytes q) (U .within) refl new step l (A .level)
-              (A .busy l (A .level) (A .open-here));
-          kept = keep-met (R .sound) (R .bytes q) (U .within) refl new step;
-          more = omega arith;
-          raised = λ ne. omega arith;
-          met = λ same-level x hx h.
-              let e = eqb-true q x h in
-              rw (sym e) (now-met (R .sound) (R .bytes q) (U .within) refl new step);
-        }
+                ready =
+                    record {
+                      bytes = R .bytes;
+                      whole = R .whole;
+                      wide = R .wide;
+                      sized = record { words = same-length ∙ R .sized .words; small = R .sized .small };
+                      wide-heads = R .wide-heads;
+                      wide-tails = P .wide-tails;
+                      wide-opened = P .wide-opened;
+                      marks = P .marks;
+                      first = N .first';
+                      par = N .par';
+                      root = N .root';
+                      named = N .named;
+                      sound =
+                          met-sound (R .sound) (R .bytes q) (U .within) refl unmet step (λ x h. R .bytes x)
+                          (reaches (R .sound) A refl (U .within) (U .next));
+                      at = met-at (R .sound) (R .bytes q) (U .within) refl unmet step l r A which;
+                    };
+                same-heads = refl;
+                same-head =
+                    met-ord (R .sound) (R .bytes q) (U .within) refl unmet step l (A .level)
+                    (A .busy l (A .level) (A .open-here));
+                kept = kept;
+                more = omega arith;
+                raised = λ ne. omega arith;
+                met = λ same-level x hx h. let e = eqb-true q x h in rw (sym e) named-fits;
+                to = λ ne.
+                    by-cases
+                    which
+                    (λ up. eq-eqb q _ (sym (rw (up .1) (first-here (up .0)))))
+                    (λ same. absurd (ne (same .1)));
+              }

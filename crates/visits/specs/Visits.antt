@@ -11,29 +11,31 @@ use Rattle.grid.specs.Pixels.{pixels}
 use Rattle.grid.specs.Neighbours.{next-in-row, next-in-column, adjacent}
 use Rattle.grid.specs.declared.Grid.{Grid}
 use Rattle.levels.specs.Levels.{grey, entry-sum}
-use Rattle.levels.specs.Workspace.{Sized, parent-of, order-of}
+use Rattle.levels.specs.Workspace.{Sized, number-at, order-of}
 use Rattle.flooding.specs.Flooding.{Sound, At}
+use Rattle.flooding.specs.Numbers.{Named}
 use Rattle.queues.specs.Marks.{Marked}
-use Rattle.queues.specs.Queues.{Lists, lists, state-of}
+use Rattle.queues.specs.Queues.{Lists, lists, numbers-of, state-of}
 
 -- the lists that a function is lent, and what they are at its entry and at its exit
 abbrev Lent : Type 0
 Lent = RefT (List ℕ)
 
 abbrev pub held : Lent → Lent → Lent → Lent → Lists
-held ws heads tails roots = lists (now ws) (now heads) (now tails) (now roots)
+held ws heads tails opened = lists (now ws) (now heads) (now tails) (now opened)
 
 abbrev pub at-entry : Both Lent Lent → Both Lent Lent → Both Lent Lent → Both Lent Lent → Lists
-at-entry ws heads tails roots = held (ws .entry) (heads .entry) (tails .entry) (roots .entry)
+at-entry ws heads tails opened = held (ws .entry) (heads .entry) (tails .entry) (opened .entry)
 
 abbrev pub at-exit : Both Lent Lent → Both Lent Lent → Both Lent Lent → Both Lent Lent → Lists
-at-exit ws heads tails roots = held (ws .exit) (heads .exit) (tails .exit) (roots .exit)
+at-exit ws heads tails opened = held (ws .exit) (heads .exit) (tails .exit) (opened .exit)
 
 -- the pixel at the head of level l
 abbrev pub head-pixel : ℕ → Lists → ℕ → ℕ
 head-pixel n s l = order-of n (s .words) (getD (s .heads) l 0)
 
--- the flood of a picture stands at level l
+-- the flood of a picture stands at level l: the numbers stand for parents and roots, which are not stored, and those with the queues for a
+-- state of the flood
 pub record Ready (grid : Grid) (picture : List ℕ) (s : Lists) (l : ℕ) : Type 0 where
   pub bytes : (x : ℕ) → grey picture x < 256
   pub whole : length picture ≡ pixels grid
@@ -41,15 +43,23 @@ pub record Ready (grid : Grid) (picture : List ℕ) (s : Lists) (l : ℕ) : Type
   pub sized : Sized (length picture) (s .words)
   pub wide-heads : length (s .heads) ≡ 256
   pub wide-tails : length (s .tails) ≡ 256
-  pub wide-roots : length (s .roots) ≡ 260
-  pub marks : Marked (length picture) (s .roots)
-  pub sound : Sound (length picture) (adjacent grid) (grey picture) (state-of (length picture) s)
-  pub at : At (length picture) (state-of (length picture) s) l
+  pub wide-opened : length (s .opened) ≡ 262
+  pub marks : Marked (length picture) (s .opened)
+  pub first : ℕ → ℕ
+  pub par : ℕ → ℕ
+  pub root : ℕ → ℕ
+  pub named : Named (length picture) (grey picture) first par root (numbers-of (length picture) (s .words) (s .opened))
+  pub sound : Sound (length picture) (adjacent grid) (grey picture) (state-of (length picture) par root s)
+  pub at : At (length picture) (state-of (length picture) par root s) l
 
 -- p is the pixel at the head of level l, at which the flood stands
 pub record Standing (grid : Grid) (picture : List ℕ) (s : Lists) (l p : ℕ) : Type 0 where
   pub ready : Ready grid picture s l
   pub here : head-pixel (length picture) s l ≡ p
+
+-- the flood stands at the pixel p: it is at the head of the level of its grey
+abbrev pub StandsAt : Grid → List ℕ → Lists → ℕ → Type 0
+StandsAt grid picture s p = Standing grid picture s (grey picture p) p
 
 -- q is a neighbour of the pixel at the head of level l, at which the flood stands
 pub record Visiting (grid : Grid) (picture : List ℕ) (s : Lists) (l q : ℕ) : Type 0 where
@@ -71,16 +81,21 @@ abbrev pub below : Grid → ℕ → Positions
 below grid p q = next-in-column (grid .width) p q
 
 -- neighbours of the pixel at the head of level l were visited, and the flood stands at level r; where that is l, those on the side
--- named are all met
+-- named are all met, and where it is not, the pixel at its head is on that side
 pub record Visited (grid : Grid) (picture : List ℕ) (s s' : Lists) (l r : ℕ) (side : Positions) : Type 0 where
   pub ready : Ready grid picture s' r
   pub same-heads : s' .heads ≡ s .heads
   pub same-head : head-pixel (length picture) s' l ≡ head-pixel (length picture) s l
-  pub kept : (x : ℕ) → x < length picture → parent-of (s .words) x < length picture → parent-of (s' .words) x < length picture
+  pub kept : (x : ℕ) → x < length picture → number-at (s .words) x < length picture → number-at (s' .words) x < length picture
   pub more : entry-sum (s .tails) 256 ≤ entry-sum (s' .tails) 256
   pub raised : (r ≡ l → ⊥) → entry-sum (s .tails) 256 < entry-sum (s' .tails) 256
-  pub met : r ≡ l → (x : ℕ) → x < length picture → side x ≡ true → parent-of (s' .words) x < length picture
+  pub met : r ≡ l → (x : ℕ) → x < length picture → side x ≡ true → number-at (s' .words) x < length picture
+  pub to : (r ≡ l → ⊥) → side (head-pixel (length picture) s' r) ≡ true
 
--- the same of all its neighbours
-abbrev pub AllVisited : Grid → List ℕ → Lists → Lists → ℕ → ℕ → Type 0
-AllVisited grid picture s s' l r = Visited grid picture s s' l r (adjacent grid (head-pixel (length picture) s l))
+-- neighbours of the pixel p, at which the flood stood, were visited, and it stands at the pixel q; where that is p, all are met
+pub record VisitedAround (grid : Grid) (picture : List ℕ) (s s' : Lists) (p q : ℕ) : Type 0 where
+  pub stands : StandsAt grid picture s' q
+  pub same-heads : s' .heads ≡ s .heads
+  pub more : entry-sum (s .tails) 256 ≤ entry-sum (s' .tails) 256
+  pub raised : (q ≡ p → ⊥) → entry-sum (s .tails) 256 < entry-sum (s' .tails) 256
+  pub met : q ≡ p → (x : ℕ) → x < length picture → adjacent grid p x ≡ true → number-at (s' .words) x < length picture

@@ -1,5 +1,5 @@
--- `flood` meets its contract. The counts give the starts of the runs, the parents are filled, and the first pixel in its queue makes the
--- flood ready to run.
+-- `flood` meets its contract. The counts give the starts of the runs, the numbers are filled, and the first pixel in its queue is where
+-- the flood stands first.
 use Prim.Native.Nat.{ℕ, _-_, _<_}
 use mathlib.Core.List.{List, _++_}
 use mathlib.Core.Path.{_≡_}
@@ -7,7 +7,7 @@ use native.Mathlib.Omega.{arith}
 use lib.ListN.{getD, length, drop}
 use borrow.Author.Needs.{needs}
 use Rattle.levels.specs.Workspace.{Sized}
-use Rattle.flood.proofs.Starts.{first-pixel, counts-fit, filled-sized, filled-unmet, first-fits, first-ready}
+use Rattle.flood.proofs.Starts.{first-pixel, counts-fit, filled-sized, filled-unmet, first-fits, first-stands}
 use Rattle.flood.proofs.flood.Statement.{statement}
 use Rattle.flood.proofs.flood.Tie as tie
 
@@ -17,15 +17,15 @@ starts c = c .before .before
 abbrev start : tie.After-fill → tie.Start
 start c = starts c .before .before .before .before
 
--- the words of the workspace, the parents filled
+-- the words of the workspace, the numbers filled
 abbrev words : tie.After-fill → List ℕ
 words c = let n = length (start c .args .picture .now) in c .fill .last .0 ++ drop (n - 0) (drop 0 (start c .args .ws .now))
 
-parents-sized : (c : tie.After-fill) → Sized (length (start c .args .picture .now)) (words c)
-parents-sized c = filled-sized (c .fill .last .0) (start c .pre .sized) (c .fill .ensures)
+numbers-sized : (c : tie.After-fill) → Sized (length (start c .args .picture .now)) (words c)
+numbers-sized c = filled-sized (c .fill .last .0) (start c .pre .sized) (c .fill .ensures)
 
-parents-unmet : (c : tie.After-fill) → let n = length (start c .args .picture .now) in (q : ℕ) → q < n → getD (words c) q 0 ≡ n
-parents-unmet c = filled-unmet (c .fill .last .0) (start c .pre .sized) (c .fill .ensures)
+numbers-unmet : (c : tie.After-fill) → let n = length (start c .args .picture .now) in (q : ℕ) → q < n → getD (words c) q 0 ≡ n
+numbers-unmet c = filled-unmet (c .fill .last .0) (start c .pre .sized) (c .fill .ensures)
 
 count-levels-requires : tie.Need-count-levels-requires
 count-levels-requires c κs = search needs
@@ -35,17 +35,23 @@ run-starts-requires c κs =
     let at = c .before .before .before in
     counts-fit (at .args .picture .now) (c .count-levels .ensures) (at .pre .sized .small)
 
-array-write-roots : tie.Need-array-write-roots
-array-write-roots c = search needs
+array-write-opened : tie.Need-array-write-opened
+array-write-opened c = search needs
 
-array-write-roots-2 : tie.Need-array-write-roots-2
-array-write-roots-2 c = search needs
+array-write-opened-2 : tie.Need-array-write-opened-2
+array-write-opened-2 c = search needs
 
-array-write-roots-3 : tie.Need-array-write-roots-3
-array-write-roots-3 c = search needs
+array-write-opened-3 : tie.Need-array-write-opened-3
+array-write-opened-3 c = search needs
 
-array-write-roots-4 : tie.Need-array-write-roots-4
-array-write-roots-4 c = search needs
+array-write-opened-4 : tie.Need-array-write-opened-4
+array-write-opened-4 c = search needs
+
+array-write-opened-5 : tie.Need-array-write-opened-5
+array-write-opened-5 c = search needs
+
+array-write-opened-6 : tie.Need-array-write-opened-6
+array-write-opened-6 c = search needs
 
 sub-fill : tie.Need-sub-fill
 sub-fill c = search needs
@@ -62,11 +68,11 @@ cast-fill c = search needs
 fill-requires : tie.Need-fill-requires
 fill-requires c κs = search needs
 
-shared-slice-read-first : tie.Need-shared-slice-read-first
-shared-slice-read-first c = first-pixel (start (c .before .before .before) .pre)
+shared-slice-read-level : tie.Need-shared-slice-read-level
+shared-slice-read-level c = first-pixel (start (c .before .before .before) .pre)
 
-cast-first : tie.Need-cast-first
-cast-first c = omega (arith, c .shared-slice-known2 .given 0)
+cast-level : tie.Need-cast-level
+cast-level c = omega (arith, c .shared-slice-known2 .given 0)
 
 push-requires : tie.Need-push-requires
 push-requires c κs =
@@ -77,23 +83,26 @@ push-requires c κs =
     (λ x. first .shared-slice-known2 .given x .fits)
     (starts filled .before .count-levels .ensures)
     (starts filled .run-starts .ensures)
-    (parents-sized filled)
-    (parents-unmet filled)
+    (numbers-sized filled)
+    (numbers-unmet filled)
 
 run-requires : tie.Need-run-requires
 run-requires c κs =
     let queued = c .before .before .before .before .before .before in
     let first = queued .before .before .before .before in
     let filled = first .before .before .before in
-    first-ready
+    first-stands
     (start filled .pre)
     (λ x. first .shared-slice-known2 .given x .fits)
     (starts filled .before .count-levels .ensures)
     (starts filled .run-starts .ensures)
-    (parents-sized filled)
-    (parents-unmet filled)
+    (numbers-sized filled)
+    (numbers-unmet filled)
     (queued .push .ensures)
     (queued .push .kept .1 .1 .1 .0)
+
+array-read-result : tie.Need-array-read-result
+array-read-result c = search needs
 
 same-length : tie.Need-same-length
 same-length c = search needs
@@ -107,18 +116,21 @@ flood-spec =
     (tie.spec
     count-levels-requires
     run-starts-requires
-    array-write-roots
-    array-write-roots-2
-    array-write-roots-3
-    array-write-roots-4
+    array-write-opened
+    array-write-opened-2
+    array-write-opened-3
+    array-write-opened-4
+    array-write-opened-5
+    array-write-opened-6
     sub-fill
     part-fill-start
     part-fill-end
     cast-fill
     fill-requires
-    shared-slice-read-first
-    cast-first
+    shared-slice-read-level
+    cast-level
     push-requires
     run-requires
+    array-read-result
     same-length
     returns)

@@ -1,29 +1,38 @@
--- `map_passes::settle_nodes` meets its contract. The loop's invariant: the first i nodes of the list are settled, and the words by
--- which the pass goes are as they were. The measure is how many nodes are left.
-use Prim.Native.Nat.{_*_, _-_, _≤_}
+-- `map_passes::settle_nodes` meets its contract. The loop's invariant: the nodes from place i of the order of closing on are settled, and
+-- the words by which the pass goes are as they were. The measure is i.
+use Prim.Native.Nat.{_≤_}
+use mathlib.Core.Path.{subst}
 use native.Mathlib.Omega.{arith}
-use lib.ListN.{take}
-use Rattle.map_passes.specs.Passes.{Settled-to}
-use Rattle.map_passes.proofs.Visiting.{visit-start, visitable, visited, visited-all}
+use Rattle.map_passes.specs.Passes.{Settled-from}
+use Rattle.map_passes.proofs.Visiting.{visit-start, visit-asked, visit-more}
+use borrow.Author.Needs.{needs}
 use Rattle.map_passes.proofs.settle_nodes.Statement.{statement}
 use Rattle.map_passes.proofs.settle_nodes.Tie as tie
 
 abbrev Inv-loop : tie.InvT-loop
-Inv-loop picture steps table n nodes ws₀ i₀ ws i = (i ≤ nodes) × Settled-to n picture steps (take (3 * n) ws₀) ws i
+Inv-loop picture steps table n nodes ws₀ i₀ ws i = (i ≤ nodes) × Settled-from n nodes picture steps ws₀ ws i
 
 abbrev μ-loop : tie.MeasureT-loop
-μ-loop picture steps table n nodes ws₀ i₀ ws i = nodes - i
+μ-loop picture steps table n nodes ws₀ i₀ ws i = i
 
 loop-holds : tie.Need-loop-holds Inv-loop μ-loop
-loop-holds c = (omega arith, visit-start _ _ _ _ (c .before .before .before .pre .0 .1))
+loop-holds c = (omega arith, visit-start)
+
+sub-i : tie.Need-sub-i Inv-loop μ-loop
+sub-i c = search needs
 
 visit-requires : tie.Need-visit-requires Inv-loop μ-loop
 visit-requires c κs =
-    let start = c .before .before .before .before .before .before in
-    (visitable (start .args .steps .now) (c .before .before .loop .inv .1) (c .before .loop-test .taken) (start .pre .0 .0), start .pre .1)
-
-add-i : tie.Need-add-i Inv-loop μ-loop
-add-i c = omega arith
+    let at-loop = c .before .before in
+    let lent = at-loop .before .before .before in (
+      visit-asked
+          (lent .before .pre .0)
+          (λ q. lent .shared-slice-known .given q .fits)
+          (c .before .loop-test .taken)
+          (at-loop .loop .inv .0)
+          (at-loop .loop .inv .1),
+      lent .before .pre .1,
+    )
 
 loop-less : tie.Need-loop-less Inv-loop μ-loop
 loop-less c = omega arith
@@ -31,14 +40,22 @@ loop-less c = omega arith
 loop-again : tie.Need-loop-again Inv-loop μ-loop
 loop-again c =
     let at-loop = c .before .before .before .before .before in
-    let start = at-loop .before .before .before .before in
-    (omega arith, visited (start .args .steps .now) (at-loop .loop .inv .1) (c .before .before .visit .ensures))
+    let lent = at-loop .before .before .before in (
+      omega arith,
+      visit-more
+          (lent .before .pre .0)
+          (λ q. lent .shared-slice-known .given q .fits)
+          (c .before .before .before .before .loop-test .taken)
+          (at-loop .loop .inv .0)
+          (at-loop .loop .inv .1)
+          (c .before .before .visit .ensures),
+    )
 
 same-length : tie.Need-same-length Inv-loop μ-loop
-same-length c = omega (arith, c .before .loop .inv .1 .ws-size, c .before .before .before .before .before .pre .0 .1)
+same-length c = c .before .loop .inv .1 .kept .words
 
 returns : tie.Need-returns Inv-loop μ-loop
-returns c = visited-all (c .before .before .before .before .before .args .steps .now) (c .before .loop .inv .1) _ (omega arith)
+returns c = subst (Settled-from _ _ _ _ _ _) (omega arith) (c .before .loop .inv .1)
 
 pub settle-nodes-spec : {M : Type 1} → statement M
 settle-nodes-spec =
@@ -47,8 +64,8 @@ settle-nodes-spec =
     Inv-loop
     μ-loop
     loop-holds
+    sub-i
     visit-requires
-    add-i
     loop-less
     loop-again
     same-length

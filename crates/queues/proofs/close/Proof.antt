@@ -1,10 +1,11 @@
--- `close` meets its contract. The level that the search found is darker, so its root is not the one that is closed.
+-- `close` meets its contract. The level that the search found is darker, so its number is not the one that is closed.
 use mathlib.Core.Logic.{inl, inr}
 use mathlib.Core.Path.{refl}
 use native.Mathlib.Omega.{arith}
+use lib.ListN.{length-set}
 use borrow.Author.Needs.{needs}
 use Rattle.queues.specs.Queues.{NextOpen}
-use Rattle.queues.proofs.Parts.{found, found-none, level-fits, next-small, closing}
+use Rattle.queues.proofs.Parts.{found, found-none, level-fits, next-small, shuts, shuts-below}
 use Rattle.queues.proofs.close.Statement.{statement}
 use Rattle.queues.proofs.close.Tie as tie
 
@@ -12,99 +13,183 @@ abbrev start : tie.After-open-below → tie.Start
 start c = c .before .before .before
 
 -- a level below is open
+abbrev searched : tie.Else1 → tie.After-open-below
+searched c = c .before .before .before .before
+
 next :
     (c : tie.Else1)
-    → let at = start (c .before .before .before) .args in
-    NextOpen (at .n) (at .roots .now) (at .level) (c .before .before .before .open-below .result)
-next c = found (c .before .before .before .open-below .ensures) (c .if1 .left)
+    → let at = start (searched c) .args in
+    NextOpen (at .n) (at .opened .now) (at .level) (searched c .open-below .result)
+next c = found (searched c .open-below .ensures) (c .if1 .left)
 
 open-below-requires : tie.Need-open-below-requires
 open-below-requires c κs = search needs
 
-mul-r : tie.Need-mul-r
-mul-r c = search needs
+mul-k : tie.Need-mul-k
+mul-k c = search needs
 
-element-copy-out-r : tie.Need-element-copy-out-r
-element-copy-out-r c = search needs
+element-copy-out-k : tie.Need-element-copy-out-k
+element-copy-out-k c = search needs
 
-mul-roots : tie.Need-mul-roots
-mul-roots c = search needs
+element-copy-out-i : tie.Need-element-copy-out-i
+element-copy-out-i c = search needs
 
-element-write-roots : tie.Need-element-write-roots
-element-write-roots c = search needs
+mul-opened : tie.Need-mul-opened
+mul-opened c = search needs
 
-add-roots : tie.Need-add-roots
-add-roots c = search needs
+element-write-opened : tie.Need-element-write-opened
+element-write-opened c = search needs
 
-mul-roots-2 : tie.Need-mul-roots-2
-mul-roots-2 c = search needs
+add-opened : tie.Need-add-opened
+add-opened c = search needs
 
-element-copy-out-roots : tie.Need-element-copy-out-roots
-element-copy-out-roots c = search needs
+mul-opened-2 : tie.Need-mul-opened-2
+mul-opened-2 c = search needs
 
-shl-roots : tie.Need-shl-roots
-shl-roots c = search needs
+element-copy-out-opened : tie.Need-element-copy-out-opened
+element-copy-out-opened c = search needs
 
-sub-roots : tie.Need-sub-roots
-sub-roots c = level-fits (c .before .before .before .before .before .pre)
+shl-opened : tie.Need-shl-opened
+shl-opened c = search needs
 
-add-roots-2 : tie.Need-add-roots-2
-add-roots-2 c = search needs
+sub-opened : tie.Need-sub-opened
+sub-opened c = level-fits (start (c .before .before .before) .pre)
 
-mul-roots-3 : tie.Need-mul-roots-3
-mul-roots-3 c = search needs
+add-opened-2 : tie.Need-add-opened-2
+add-opened-2 c = search needs
 
-element-write-roots-2 : tie.Need-element-write-roots-2
-element-write-roots-2 c = search needs
+mul-opened-3 : tie.Need-mul-opened-3
+mul-opened-3 c = search needs
 
-returns : tie.Need-returns
-returns c =
-    let searched = c .before .before .before in
-    inr (refl, found-none (searched .open-below .ensures) (c .if1 .taken) (start searched .pre .level), refl)
+element-write-opened-2 : tie.Need-element-write-opened-2
+element-write-opened-2 c = search needs
 
-mul-ws : tie.Need-mul-ws
-mul-ws c = omega (arith, next c .lower, start (c .before .before .before) .pre .level)
+add-opened-3 : tie.Need-add-opened-3
+add-opened-3 c = search needs
 
-element-copy-out-ws : tie.Need-element-copy-out-ws
-element-copy-out-ws c = omega (arith, next c .lower, start (c .before .before .before) .pre .level)
+element-write-opened-3 : tie.Need-element-write-opened-3
+element-write-opened-3 c = search needs
 
 cast-ws : tie.Need-cast-ws
-cast-ws c = omega (arith, next-small (start (c .before .before .before .before) .pre) (next (c .before)))
+cast-ws c = search needs
 
-mul-ws-2 : tie.Need-mul-ws-2
-mul-ws-2 c = search needs
+add-ws : tie.Need-add-ws
+add-ws c = search needs
+
+mul-ws : tie.Need-mul-ws
+mul-ws c = search needs
 
 slice-write-ws : tie.Need-slice-write-ws
 slice-write-ws c = search needs
 
+cast-ws-2 : tie.Need-cast-ws-2
+cast-ws-2 c = search needs
+
+mul-ws-2 : tie.Need-mul-ws-2
+mul-ws-2 c = search needs
+
+mul-ws-3 : tie.Need-mul-ws-3
+mul-ws-3 c = search needs
+
+add-ws-2 : tie.Need-add-ws-2
+add-ws-2 c = search needs
+
+add-ws-3 : tie.Need-add-ws-3
+add-ws-3 c = search needs
+
+mul-ws-4 : tie.Need-mul-ws-4
+mul-ws-4 c = search needs
+
+slice-write-ws-2 : tie.Need-slice-write-ws-2
+slice-write-ws-2 c =
+    let at = start (c .before .before .before .before) in
+    simp length-set (omega (arith, at .pre .sized .words, at .pre .open-here))
+
 same-length : tie.Need-same-length
 same-length c = search needs
 
+returns : tie.Need-returns
+returns c =
+    let below = c .before .before .before .before in
+    let at = start below in
+    inr (refl, found-none (below .open-below .ensures) (c .if1 .taken) (at .pre .level), shuts (at .pre) _)
+
+mul-ws-5 : tie.Need-mul-ws-5
+mul-ws-5 c = omega (arith, next c .lower, start (searched c) .pre .level)
+
+element-copy-out-ws : tie.Need-element-copy-out-ws
+element-copy-out-ws c = omega (arith, next c .lower, start (searched c) .pre .level)
+
+cast-ws-3 : tie.Need-cast-ws-3
+cast-ws-3 c = omega (arith, next-small (start (searched (c .before)) .pre) (next (c .before)))
+
+mul-ws-6 : tie.Need-mul-ws-6
+mul-ws-6 c = search needs
+
+mul-ws-7 : tie.Need-mul-ws-7
+mul-ws-7 c = search needs
+
+add-ws-4 : tie.Need-add-ws-4
+add-ws-4 c = search needs
+
+add-ws-5 : tie.Need-add-ws-5
+add-ws-5 c = search needs
+
+mul-ws-8 : tie.Need-mul-ws-8
+mul-ws-8 c = search needs
+
+slice-write-ws-3 : tie.Need-slice-write-ws-3
+slice-write-ws-3 c =
+    let at = start (searched (c .before)) in
+    simp length-set (omega (arith, at .pre .sized .words, at .pre .open-here))
+
+same-length-2 : tie.Need-same-length-2
+same-length-2 c = search needs
+
 returns-2 : tie.Need-returns-2
-returns-2 c = inl (closing (start (c .before .before .before .before) .pre) (next (c .before)))
+returns-2 c = inl (next (c .before), shuts-below (start (searched (c .before)) .pre) (next (c .before)))
 
 pub close-spec : {M : Type 1} → statement M
 close-spec =
     tie.close
     (tie.spec
     open-below-requires
-    mul-r
-    element-copy-out-r
-    mul-roots
-    element-write-roots
-    add-roots
-    mul-roots-2
-    element-copy-out-roots
-    shl-roots
-    sub-roots
-    add-roots-2
-    mul-roots-3
-    element-write-roots-2
-    returns
-    mul-ws
-    element-copy-out-ws
+    mul-k
+    element-copy-out-k
+    element-copy-out-i
+    mul-opened
+    element-write-opened
+    add-opened
+    mul-opened-2
+    element-copy-out-opened
+    shl-opened
+    sub-opened
+    add-opened-2
+    mul-opened-3
+    element-write-opened-2
+    add-opened-3
+    element-write-opened-3
     cast-ws
-    mul-ws-2
+    add-ws
+    mul-ws
     slice-write-ws
+    cast-ws-2
+    mul-ws-2
+    mul-ws-3
+    add-ws-2
+    add-ws-3
+    mul-ws-4
+    slice-write-ws-2
     same-length
+    returns
+    mul-ws-5
+    element-copy-out-ws
+    cast-ws-3
+    mul-ws-6
+    mul-ws-7
+    add-ws-4
+    add-ws-5
+    mul-ws-8
+    slice-write-ws-3
+    same-length-2
     returns-2)

@@ -13,17 +13,17 @@ use Rattle.queues.proofs.open_below.Statement.{statement}
 use Rattle.queues.proofs.open_below.Tie as tie
 
 abbrev Inv-loop : tie.InvT-loop
-Inv-loop level n roots i₀ own i = (64 * i ≤ level) × ((k : ℕ) → 64 * i ≤ k → k < level → getD roots k 0 ≡ n)
+Inv-loop level n opened i₀ own i = (64 * i ≤ level) × ((k : ℕ) → 64 * i ≤ k → k < level → getD opened k 0 ≡ n)
 
 abbrev μ-loop : tie.MeasureT-loop
-μ-loop level n roots i₀ own i = i
+μ-loop level n opened i₀ own i = i
 
 -- the brightest open level is in word i
 next :
     (c : tie.After-highest2 Inv-loop μ-loop)
     → let at-loop = c .before .before .before .before .before in
     let start = at-loop .before .before .before in
-    NextOpen (start .args .n) (start .args .roots .now) (start .args .level) (64 * (at-loop .loop .i - 1) + c .highest2 .result)
+    NextOpen (start .args .n) (start .args .opened .now) (start .args .level) (64 * (at-loop .loop .i - 1) + c .highest2 .result)
 next c =
     let in-loop = c .before .before .before .before in
     let at-loop = in-loop .before in

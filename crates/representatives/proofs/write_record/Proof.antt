@@ -1,55 +1,54 @@
--- `representatives::write_record` meets its contract. Invariant: the words of the pixels below q are written, those from q on are as they were,
--- and the representatives below q stand at the ends of their levels' runs and are counted. Measure: the pixels from q on. Assumes nothing.
+-- `representatives::write_record` meets its contract. Invariant: the words of the pixels below q are written, the numbers of those from q
+-- on and the words of the nodes are as they were, and the list has the representatives below q. Measure: the pixels from q on. Assumes nothing.
 use Prim.Native.Nat.{_-_}
 use native.Mathlib.Omega.{arith}
-use lib.ListN.{length}
-use Rattle.representatives.proofs.Representatives.{Writing, writing-none, write-asked, writing-more, number-room, writing-end}
+use Rattle.representatives.proofs.Representatives.{Writing, writing-none, write-asked, listed-room, writing-more, writing-end}
 use Rattle.representatives.proofs.write_record.Statement.{statement}
 use Rattle.representatives.proofs.write_record.Tie as tie
 
 abbrev Inv-loop : tie.InvT-loop
-Inv-loop picture ws₀ n tails₀ nodes₀ q₀ ws tails nodes q = Writing picture ws₀ ws tails nodes q
+Inv-loop n ws₀ listed₀ q₀ ws listed q = Writing n ws₀ ws listed q
 
 abbrev μ-loop : tie.MeasureT-loop
-μ-loop picture ws₀ n tails₀ nodes₀ q₀ ws tails nodes q = length picture - q
+μ-loop n ws₀ listed₀ q₀ ws listed q = n - q
 
 loop-holds : tie.Need-loop-holds Inv-loop μ-loop
-loop-holds c = writing-none (c .before .before .pre)
+loop-holds c = writing-none (c .before .args .n) (c .before .args .ws .now)
 
 write-pixel-requires : tie.Need-write-pixel-requires Inv-loop μ-loop
 write-pixel-requires c κs =
-    let at-loop = c .before .before .before in
-    write-asked (at-loop .before .before .before .pre) (c .before .before .loop-test .taken) (at-loop .loop .inv)
+    let at-loop = c .before .before in
+    write-asked (at-loop .before .before .pre) (c .before .loop-test .taken) (at-loop .loop .inv)
 
-add-nodes : tie.Need-add-nodes Inv-loop μ-loop
-add-nodes c =
-    let at-test = c .before .before .before .before .before in
-    let start = at-test .before .before .before .before in
+add-listed : tie.Need-add-listed Inv-loop μ-loop
+add-listed c =
+    let at-test = c .before .before .before .before in
+    let start = at-test .before .before .before in
     omega (
       arith,
-      number-room (start .pre) (at-test .loop-test .taken) (at-test .before .loop .inv) (c .before .before .write-pixel .ensures .0),
+      listed-room (start .pre) (at-test .loop-test .taken) (at-test .before .loop .inv) (c .before .before .write-pixel .ensures .0),
       start .pre .sized .small,
     )
 
 add-q : tie.Need-add-q Inv-loop μ-loop
 add-q c =
-    let at-test = c .before .before .before .before .before in
-    omega (arith, at-test .loop-test .taken, at-test .before .before .before .before .pre .sized .small)
+    let at-test = c .before .before .before .before in
+    omega (arith, at-test .loop-test .taken, at-test .before .before .before .pre .sized .small)
 
 loop-less : tie.Need-loop-less Inv-loop μ-loop
-loop-less c = omega (arith, c .before .before .before .before .before .loop-test .taken)
+loop-less c = omega (arith, c .before .before .before .before .loop-test .taken)
 
 loop-again : tie.Need-loop-again Inv-loop μ-loop
 loop-again c =
-    let at-test = c .before .before .before .before .before in
-    let start = at-test .before .before .before .before in
-    writing-more (start .pre) (at-test .loop-test .taken) (at-test .before .loop .inv) (c .before .before .write-pixel .ensures)
+    let at-test = c .before .before .before .before in
+    let wrote = c .before .before .write-pixel .ensures in
+    writing-more (at-test .before .before .before .pre) (at-test .loop-test .taken) (at-test .before .loop .inv) (wrote .0) (wrote .1)
 
 same-length : tie.Need-same-length Inv-loop μ-loop
 same-length c = c .before .loop .inv .words
 
 returns : tie.Need-returns Inv-loop μ-loop
-returns c = writing-end (c .before .before .before .before .pre) (c .loop-test .left) (c .before .loop .inv)
+returns c = writing-end (c .loop-test .left) (c .before .loop .inv)
 
 pub write-record-spec : {M : Type 1} → statement M
 write-record-spec =
@@ -59,7 +58,7 @@ write-record-spec =
     μ-loop
     loop-holds
     write-pixel-requires
-    add-nodes
+    add-listed
     add-q
     loop-less
     loop-again

@@ -4,7 +4,7 @@ use denote.Ref.{now}
 use Rattle.causes.specs.declared.Cause.the-variants.{Steps, Workspace, Output}
 use Rattle.calls.specs.Calls.{Map-call, map-verdict}
 use Rattle.calls.proofs.Judging.{tested}
-use Rattle.residues.proofs.Mapping.{called-refused, build-asks, passes-ask, clearing-asks, called-done}
+use Rattle.residues.proofs.Mapping.{called-refused, build-asks, passes-ask, record-asks, clearing-asks, called-done}
 use borrow.Author.Needs.{needs}
 use Rattle.residues.proofs.map.Statement.{statement}
 use Rattle.residues.proofs.map.Tie as tie
@@ -75,31 +75,41 @@ returns c = let at = c .before .before .before in called-refused (call at) (judg
 enum-told : tie.Need-enum-told
 enum-told c = search needs
 
-build-ordered-requires : tie.Need-build-ordered-requires
-build-ordered-requires c κs =
+build-nodes-requires : tie.Need-build-nodes-requires
+build-nodes-requires c κs =
     let at = c .before .before .before in
     build-asks (call at) (judged at) (c .before .enum-told .given .1)
-
-cast-write-maps : tie.Need-cast-write-maps
-cast-write-maps c = search needs
 
 write-maps-requires : tie.Need-write-maps-requires
 write-maps-requires c κs =
     let built = c .before .before .before .before .before in
     let told = built .before .before in
     let at = told .before .before in
-    passes-ask (call at) (judged at) (told .enum-told .given .1) (built .build-ordered .ensures)
+    passes-ask (call at) (judged at) (told .enum-told .given .1) (built .build-nodes .ensures)
+
+write-ordered-requires : tie.Need-write-ordered-requires
+write-ordered-requires c κs =
+    let written = c .before .before .before .before .before .before .before in
+    let built = written .before .before .before .before .before .before in
+    let told = built .before .before in
+    let at = told .before .before in
+    record-asks (call at) (judged at)
+    (told .enum-told .given .1)
+    (built .build-nodes .ensures)
+    (written .write-maps .ensures)
 
 clear-scratch-requires : tie.Need-clear-scratch-requires
 clear-scratch-requires c κs =
-    let written = c .before .before .before .before .before .before .before in
+    let recorded = c .before .before .before in
+    let written = recorded .before .before .before .before .before .before .before .before in
     let built = written .before .before .before .before .before .before in
     let told = built .before .before in
     let at = told .before .before in
     clearing-asks (call at) (judged at)
     (told .enum-told .given .1)
-    (built .build-ordered .ensures)
-    (written .write-maps .kept .1 .1 .1 .0)
+    (built .build-nodes .ensures)
+    (written .write-maps .ensures)
+    (recorded .write-ordered .kept .1 .0)
 
 same-length : tie.Need-same-length
 same-length c = search needs
@@ -113,14 +123,16 @@ same-length-3 c = search needs
 returns-2 : tie.Need-returns-2
 returns-2 c =
     let cleared = c .before .before in
-    let written = cleared .before .before .before .before .before .before .before .before in
+    let recorded = cleared .before .before .before .before in
+    let written = recorded .before .before .before .before .before .before .before .before in
     let built = written .before .before .before .before .before .before in
     let told = built .before .before in
     let at = told .before .before in
     called-done (call at) (judged at)
     (told .enum-told .given .1)
-    (built .build-ordered .ensures)
+    (built .build-nodes .ensures)
     (written .write-maps .ensures)
+    (recorded .write-ordered .ensures)
     (cleared .clear-scratch .ensures)
 
 pub map-spec : {M : Type 1} → statement M
@@ -139,9 +151,9 @@ map-spec =
     enum-known-verdict
     returns
     enum-told
-    build-ordered-requires
-    cast-write-maps
+    build-nodes-requires
     write-maps-requires
+    write-ordered-requires
     clear-scratch-requires
     same-length
     same-length-2

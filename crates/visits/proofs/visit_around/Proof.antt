@@ -1,32 +1,34 @@
--- `visit_around` meets its contract. Each visit that stays at the level leaves the same pixel at its head for the next.
-use Prim.Native.Nat.{ℕ, _+_, _*_}
+-- `visit_around` meets its contract. Each visit that stays at the level leaves the same pixel at its head for the next; one that does
+-- not leaves the pixel on its side at the head of the new level.
+use Prim.Native.Nat.{ℕ}
 use mathlib.Core.Path.{refl}
+use native.Mathlib.Nat.{mod-lt, mod-le}
 use native.Mathlib.Omega.{arith}
-use lib.ListN.{getD, length}
 use borrow.Author.Needs.{needs}
 use Rattle.sets.specs.Sets.{Positions}
 use Rattle.grid.specs.declared.Grid.{Grid}
+use Rattle.grid.proofs.Sides.{below-is, right-is}
 use Rattle.queues.specs.Queues.{Lists, lists}
-use Rattle.visits.specs.Visits.{held, head-pixel, above, left-of, right-of, Visited}
-use Rattle.visits.proofs.Visits.{head-in, start-standing, settle, still, same-words, leaves, on-side, visits}
-use Rattle.visits.proofs.Beside.{either-side, around, all-around}
+use Rattle.visits.specs.Visits.{held, above, left-of, right-of, below, Visited}
+use Rattle.visits.proofs.Visits.{standing-in, settle, still, same-words, visits, climbs, all-met}
+use Rattle.visits.proofs.Beside.{is-above, is-left, is-right, is-below, either-side, around, all-around}
 use Rattle.visits.proofs.visit_around.Statement.{statement}
 use Rattle.visits.proofs.visit_around.Tie as tie
 
--- the lists and the pixel at the start
+-- the lists and the level at the start
 abbrev entry : tie.Start → Lists
-entry c = held (c .args .ws) (c .args .heads) (c .args .tails) (c .args .roots)
+entry c = held (c .args .ws) (c .args .heads) (c .args .tails) (c .args .opened)
 
-abbrev pixel : tie.Start → ℕ
-pixel c = head-pixel (length (c .args .picture .now)) (entry c) (c .args .level)
+abbrev level : tie.Start → ℕ
+level c = c .args .level
 
--- the visits of a side left the flood at level r, and these lists
-abbrev Seen : tie.Start → Lists → ℕ → (Grid → ℕ → Positions) → Type 0
-Seen c s r side = Visited (c .args .grid) (c .args .picture .now) (entry c) s (c .args .level) r (side (c .args .grid) (pixel c))
+-- the visits of a side took the flood from the lists s to s', and to level r
+abbrev Seen : tie.Start → Lists → Lists → ℕ → (Grid → ℕ → Positions) → Type 0
+Seen c s s' r side = Visited (c .args .grid) (c .args .picture .now) s s' (level c) r (side (c .args .grid) (c .args .p))
 
 -- from each visit back to the one before it, which stayed
 abbrev start : tie.After-visit-up → tie.Start
-start c = c .before .before .before .before .before .before .before .before .before
+start c = c .before .before .before .before .before .before .before .before
 
 abbrev up : tie.After-visit-left → tie.After-visit-up
 up c = c .before .before .before .before .before .before .before
@@ -37,134 +39,175 @@ left c = c .before .before .before .before .before .before .before
 abbrev right : tie.After-visit-down → tie.After-visit-right
 right c = c .before .before .before .before .before .before .before
 
--- what each visit left, with those before it
+-- what each visit left, by itself and with those before it
 abbrev lists-up : tie.After-visit-up → Lists
 lists-up c = let last = c .visit-up .last .1 .1 .1 .1 in lists (last .0) (start c .args .heads .now) (last .1 .1 .0) (last .1 .1 .1 .0)
 
-seen-up : (c : tie.After-visit-up) → Seen (start c) (lists-up c) (c .visit-up .result) above
+seen-up : (c : tie.After-visit-up) → Seen (start c) (entry (start c)) (lists-up c) (c .visit-up .result) above
 seen-up c = c .visit-up .ensures
 
 abbrev lists-left : tie.After-visit-left → Lists
 lists-left c =
     let last = c .visit-left .last .1 .1 .1 .1 .1 in lists (last .0) (start (up c) .args .heads .now) (last .1 .1 .0) (last .1 .1 .1 .0)
 
-seen-left : (c : tie.After-visit-left) → Seen (start (up c)) (lists-left c) (c .visit-left .result) (either-side above left-of)
-seen-left c = visits (settle (seen-up (up c)) (c .before .before .before .before .if1 .left)) (c .visit-left .ensures)
+seen-left : (c : tie.After-visit-left) → Seen (start (up c)) (lists-up (up c)) (lists-left c) (c .visit-left .result) left-of
+seen-left c = c .visit-left .ensures
+
+upto-left :
+    (c : tie.After-visit-left)
+    → Seen (start (up c)) (entry (start (up c))) (lists-left c) (c .visit-left .result) (either-side above left-of)
+upto-left c = visits (settle (seen-up (up c)) (c .before .before .before .before .if1 .left)) (seen-left c)
 
 abbrev lists-right : tie.After-visit-right → Lists
 lists-right c =
     let last = c .visit-right .last .1 .1 .1 .1 .1 in
     lists (last .0) (start (up (left c)) .args .heads .now) (last .1 .1 .0) (last .1 .1 .1 .0)
 
-seen-right :
+seen-right : (c : tie.After-visit-right) → Seen (start (up (left c))) (lists-left (left c)) (lists-right c) (c .visit-right .result) right-of
+seen-right c = c .visit-right .ensures
+
+upto-right :
     (c : tie.After-visit-right)
-    → Seen (start (up (left c))) (lists-right c) (c .visit-right .result) (either-side (either-side above left-of) right-of)
-seen-right c = visits (settle (seen-left (left c)) (c .before .before .before .before .if2 .left)) (c .visit-right .ensures)
+    → let at = start (up (left c)) in
+    Seen at (entry at) (lists-right c) (c .visit-right .result) (either-side (either-side above left-of) right-of)
+upto-right c = visits (settle (upto-left (left c)) (c .before .before .before .before .if2 .left)) (seen-right c)
 
 abbrev lists-down : tie.After-visit-down → Lists
 lists-down c =
     let last = c .visit-down .last .1 .1 .1 .1 in
     lists (last .0) (start (up (left (right c))) .args .heads .now) (last .1 .1 .0) (last .1 .1 .1 .0)
 
-seen-down : (c : tie.After-visit-down) → Seen (start (up (left (right c)))) (lists-down c) (c .visit-down .result) around
-seen-down c = visits (settle (seen-right (right c)) (c .before .before .before .before .if3 .left)) (c .visit-down .ensures)
+seen-down :
+    (c : tie.After-visit-down)
+    → Seen (start (up (left (right c)))) (lists-right (right c)) (lists-down c) (c .visit-down .result) below
+seen-down c = c .visit-down .ensures
 
-mul-p : tie.Need-mul-p
-mul-p c = search needs
-
-mul-p-2 : tie.Need-mul-p-2
-mul-p-2 c = search needs
-
-element-copy-out-p : tie.Need-element-copy-out-p
-element-copy-out-p c = search needs
-
-add-p : tie.Need-add-p
-add-p c = omega (arith, head-in (c .before .before .before .pre), c .before .before .before .pre .sized .small)
-
-mul-p-3 : tie.Need-mul-p-3
-mul-p-3 c = omega (arith, head-in (c .before .before .before .pre), c .before .before .before .pre .sized .small)
-
-slice-read-p : tie.Need-slice-read-p
-slice-read-p c = omega (arith, head-in (c .before .before .before .before .pre), c .before .before .before .before .pre .sized .words)
-
-cast-p : tie.Need-cast-p
-cast-p c =
-    let at = c .before .before .before .before .args in
-    omega (arith, c .slice-known2 .given (2 * length (at .picture .now) + getD (at .heads .now) (at .level) 0))
+upto-down :
+    (c : tie.After-visit-down)
+    → let at = start (up (left (right c))) in
+    Seen at (entry at) (lists-down c) (c .visit-down .result) around
+upto-down c = visits (settle (upto-right (right c)) (c .before .before .before .before .if3 .left)) (seen-down c)
 
 cast-width : tie.Need-cast-width
 cast-width c = search needs
 
+cast-column : tie.Need-cast-column
+cast-column c =
+    let pre = c .before .before .before .pre in
+    omega (arith, standing-in pre, pre .ready .sized .small)
+
 rem-column : tie.Need-rem-column
 rem-column c = search needs
+
+cast-column-2 : tie.Need-cast-column-2
+cast-column-2 c =
+    let at = c .before .before .before .before in
+    omega (arith, mod-lt (at .args .p) (at .pre .ready .wide), standing-in (at .pre), at .pre .ready .sized .small, mod-le (at .args .p) (at .args .grid .width))
 
 visit-up-requires : tie.Need-visit-up-requires
 visit-up-requires c κs = search needs
 
+sub-result : tie.Need-sub-result
+sub-result c =
+    let done = c .before .before .before in
+    let at = start done .args in
+    omega (arith, below-is (at .grid .width) _ (at .p) (seen-up done .to (c .if1 .taken)))
+
 same-length : tie.Need-same-length
-same-length c = let done = c .before .before .before in same-words (seen-up done) (start done .pre)
+same-length c = let done = c .before .before .before in same-words (seen-up done) (start done .pre .ready)
 
 returns : tie.Need-returns
-returns c = leaves (seen-up (c .before .before .before)) (c .if1 .taken)
+returns c =
+    let done = c .before .before .before in
+    let at = start done .args in
+    climbs (seen-up done) (start done .pre) (c .if1 .taken) (is-above (at .grid) (at .p) _ (seen-up done .to (c .if1 .taken)))
 
 visit-left-requires : tie.Need-visit-left-requires
 visit-left-requires c κs =
     let done = c .before .before .before .before .before .before in
-    (still (start-standing (start done .pre)) (settle (seen-up done) (c .before .before .before .if1 .left)), refl)
+    (still (start done .pre) (settle (seen-up done) (c .before .before .before .if1 .left)), refl)
+
+sub-result-2 : tie.Need-sub-result-2
+sub-result-2 c =
+    let done = c .before .before .before in
+    let at = start (up done) .args in
+    omega (arith, right-is (at .grid .width) _ (at .p) (seen-left done .to (c .if2 .taken)))
 
 same-length-2 : tie.Need-same-length-2
-same-length-2 c = let done = c .before .before .before in same-words (seen-left done) (start (up done) .pre)
+same-length-2 c = let done = c .before .before .before in same-words (upto-left done) (start (up done) .pre .ready)
 
 returns-2 : tie.Need-returns-2
-returns-2 c = leaves (seen-left (c .before .before .before)) (c .if2 .taken)
+returns-2 c =
+    let done = c .before .before .before in
+    let at = start (up done) .args in
+    climbs (upto-left done) (start (up done) .pre) (c .if2 .taken) (is-left (at .grid) (at .p) _ (seen-left done .to (c .if2 .taken)))
 
 visit-right-requires : tie.Need-visit-right-requires
 visit-right-requires c κs =
     let done = c .before .before .before .before .before .before in
-    (still (start-standing (start (up done) .pre)) (settle (seen-left done) (c .before .before .before .if2 .left)), refl)
+    (still (start (up done) .pre) (settle (upto-left done) (c .before .before .before .if2 .left)), refl)
+
+add-result : tie.Need-add-result
+add-result c = omega (arith, standing-in (start (up (left (c .before .before .before))) .pre))
 
 same-length-3 : tie.Need-same-length-3
-same-length-3 c = let done = c .before .before .before in same-words (seen-right done) (start (up (left done)) .pre)
+same-length-3 c = let done = c .before .before .before in same-words (upto-right done) (start (up (left done)) .pre .ready)
 
 returns-3 : tie.Need-returns-3
-returns-3 c = leaves (seen-right (c .before .before .before)) (c .if3 .taken)
+returns-3 c =
+    let done = c .before .before .before in
+    let at = start (up (left done)) .args in
+    climbs (upto-right done) (start (up (left done)) .pre) (c .if3 .taken) (is-right (at .grid) (at .p) _ (seen-right done .to (c .if3 .taken)))
 
 visit-down-requires : tie.Need-visit-down-requires
 visit-down-requires c κs =
     let done = c .before .before .before .before .before .before in
-    still (start-standing (start (up (left done)) .pre)) (settle (seen-right done) (c .before .before .before .if3 .left))
+    still (start (up (left done)) .pre) (settle (upto-right done) (c .before .before .before .if3 .left))
 
 same-length-4 : tie.Need-same-length-4
-same-length-4 c = let done = c .before .before in same-words (seen-down done) (start (up (left (right done))) .pre)
+same-length-4 c = let done = c .before .before .before in same-words (upto-down done) (start (up (left (right done))) .pre .ready)
 
 returns-4 : tie.Need-returns-4
 returns-4 c =
-    let done = c .before .before in
+    let done = c .before .before .before in
+    let at = start (up (left (right done))) .args in
+    climbs (upto-down done) (start (up (left (right done))) .pre) (c .if4 .taken) (is-below (at .grid) (at .p) _ (seen-down done .to (c .if4 .taken)))
+
+add-result-2 : tie.Need-add-result-2
+add-result-2 c = omega (arith, standing-in (returns-4 c .stands))
+
+same-length-5 : tie.Need-same-length-5
+same-length-5 c = let done = c .before .before .before in same-words (upto-down done) (start (up (left (right done))) .pre .ready)
+
+returns-5 : tie.Need-returns-5
+returns-5 c =
+    let done = c .before .before .before in
     let at = start (up (left (right done))) in
-    on-side (seen-down done) (λ x hx h. all-around (at .args .grid) (pixel at) x h)
+    all-met (upto-down done) (at .pre) (c .if4 .left) (all-around (at .args .grid) (at .args .p))
 
 pub visit-around-spec : {M : Type 1} → statement M
 visit-around-spec =
     tie.close
     (tie.spec
-    mul-p
-    mul-p-2
-    element-copy-out-p
-    add-p
-    mul-p-3
-    slice-read-p
-    cast-p
     cast-width
+    cast-column
     rem-column
+    cast-column-2
     visit-up-requires
+    sub-result
     same-length
     returns
     visit-left-requires
+    sub-result-2
     same-length-2
     returns-2
     visit-right-requires
+    add-result
     same-length-3
     returns-3
     visit-down-requires
+    add-result-2
     same-length-4
-    returns-4)
+    returns-4
+    same-length-5
+    returns-5)

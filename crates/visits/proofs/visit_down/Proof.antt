@@ -6,7 +6,7 @@ use borrow.Author.Needs.{needs}
 use Rattle.queues.specs.Queues.{Lists, lists}
 use Rattle.visits.specs.Visits.{held, Visited}
 use Rattle.visits.proofs.Visits.{standing-in, on-side}
-use Rattle.visits.proofs.Beside.{none-below, visit-below, is-below}
+use Rattle.visits.proofs.Beside.{none-below, visit-below, one-below, is-below}
 use Rattle.visits.proofs.visit_down.Statement.{statement}
 use Rattle.visits.proofs.visit_down.Tie as tie
 
@@ -20,7 +20,7 @@ exit c = let last = c .visit .last .1 .1 .1 .1 in lists (last .0) (start c .args
 seen :
     (c : tie.After-visit)
     → let at = start c .args in
-    Visited (at .grid) (at .picture .now) (held (at .ws) (at .heads) (at .tails) (at .roots)) (exit c) (at .level) (c .visit .result)
+    Visited (at .grid) (at .picture .now) (held (at .ws) (at .heads) (at .tails) (at .opened)) (exit c) (at .level) (c .visit .result)
     (eqb (at .p + at .grid .width))
 seen c = c .visit .ensures
 
@@ -47,7 +47,8 @@ same-length c = search needs
 returns-2 : tie.Need-returns-2
 returns-2 c =
     let done = c .before .before in
-    on-side (seen done) (is-below (start done .args .grid) (start done .args .p))
+    let at = start done in
+    on-side (seen done) (is-below (at .args .grid) (at .args .p)) (one-below (at .args .grid) (at .args .p))
 
 pub visit-down-spec : {M : Type 1} → statement M
 visit-down-spec = tie.close (tie.spec cast-width sub-if1 returns add-visit visit-requires same-length returns-2)

@@ -8,7 +8,7 @@ use borrow.Author.Needs.{needs}
 use Rattle.queues.specs.Queues.{Lists, lists}
 use Rattle.visits.specs.Visits.{held, Visited}
 use Rattle.visits.proofs.Visits.{on-side}
-use Rattle.visits.proofs.Beside.{none-left, visit-left, is-left}
+use Rattle.visits.proofs.Beside.{none-left, visit-left, one-left, is-left}
 use Rattle.visits.proofs.visit_left.Statement.{statement}
 use Rattle.visits.proofs.visit_left.Tie as tie
 
@@ -22,7 +22,7 @@ exit c = let last = c .visit .last .1 .1 .1 .1 in lists (last .0) (start c .args
 seen :
     (c : tie.After-visit)
     → let at = start c .args in
-    Visited (at .grid) (at .picture .now) (held (at .ws) (at .heads) (at .tails) (at .roots)) (exit c) (at .level) (c .visit .result)
+    Visited (at .grid) (at .picture .now) (held (at .ws) (at .heads) (at .tails) (at .opened)) (exit c) (at .level) (c .visit .result)
     (eqb (at .p - 1))
 seen c = c .visit .ensures
 
@@ -48,7 +48,12 @@ same-length c = search needs
 returns-2 : tie.Need-returns-2
 returns-2 c =
     let done = c .before .before in
-    on-side (seen done) (is-left (start done .args .grid) (start done .args .p))
+    let at = start done in
+    let later = done .before .before .before .before .if1 .left in
+    on-side
+    (seen done)
+    (is-left (at .args .grid) (at .args .p))
+    (one-left (at .args .grid) (at .args .p) (λ e. later (at .pre .1 ∙ e)))
 
 pub visit-left-spec : {M : Type 1} → statement M
 visit-left-spec = tie.close (tie.spec returns sub-visit visit-requires same-length returns-2)

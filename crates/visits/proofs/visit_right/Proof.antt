@@ -8,7 +8,7 @@ use borrow.Author.Needs.{needs}
 use Rattle.queues.specs.Queues.{Lists, lists}
 use Rattle.visits.specs.Visits.{held, Visited}
 use Rattle.visits.proofs.Visits.{standing-in, on-side}
-use Rattle.visits.proofs.Beside.{none-right, visit-right, is-right}
+use Rattle.visits.proofs.Beside.{none-right, visit-right, one-right, is-right}
 use Rattle.visits.proofs.visit_right.Statement.{statement}
 use Rattle.visits.proofs.visit_right.Tie as tie
 
@@ -22,7 +22,7 @@ exit c = let last = c .visit .last .1 .1 .1 .1 in lists (last .0) (start c .args
 seen :
     (c : tie.After-visit)
     → let at = start c .args in
-    Visited (at .grid) (at .picture .now) (held (at .ws) (at .heads) (at .tails) (at .roots)) (exit c) (at .level) (c .visit .result)
+    Visited (at .grid) (at .picture .now) (held (at .ws) (at .heads) (at .tails) (at .opened)) (exit c) (at .level) (c .visit .result)
     (eqb (at .p + 1))
 seen c = c .visit .ensures
 
@@ -54,7 +54,12 @@ same-length c = search needs
 returns-2 : tie.Need-returns-2
 returns-2 c =
     let done = c .before .before in
-    on-side (seen done) (is-right (start done .args .grid) (start done .args .p))
+    let at = start done in
+    let earlier = done .before .before .before .before .if1 .left in
+    on-side
+    (seen done)
+    (is-right (at .args .grid) (at .args .p))
+    (one-right (at .args .grid) (at .args .p) (at .pre .0 .ready .wide) (λ e. earlier (ap (λ (x : ℕ). x + 1) (at .pre .1) ∙ e)))
 
 pub visit-right-spec : {M : Type 1} → statement M
 visit-right-spec = tie.close (tie.spec cast-width add-if1 returns add-visit visit-requires same-length returns-2)

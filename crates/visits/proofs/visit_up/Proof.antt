@@ -5,7 +5,7 @@ use borrow.Author.Needs.{needs}
 use Rattle.queues.specs.Queues.{Lists, lists}
 use Rattle.visits.specs.Visits.{held, Visited}
 use Rattle.visits.proofs.Visits.{on-side}
-use Rattle.visits.proofs.Beside.{none-above, visit-above, is-above}
+use Rattle.visits.proofs.Beside.{none-above, visit-above, one-above, is-above}
 use Rattle.visits.proofs.visit_up.Statement.{statement}
 use Rattle.visits.proofs.visit_up.Tie as tie
 
@@ -19,7 +19,7 @@ exit c = let last = c .visit .last .1 .1 .1 .1 in lists (last .0) (start c .args
 seen :
     (c : tie.After-visit)
     → let at = start c .args in
-    Visited (at .grid) (at .picture .now) (held (at .ws) (at .heads) (at .tails) (at .roots)) (exit c) (at .level) (c .visit .result)
+    Visited (at .grid) (at .picture .now) (held (at .ws) (at .heads) (at .tails) (at .opened)) (exit c) (at .level) (c .visit .result)
     (eqb (at .p - at .grid .width))
 seen c = c .visit .ensures
 
@@ -40,7 +40,9 @@ same-length c = search needs
 returns-2 : tie.Need-returns-2
 returns-2 c =
     let done = c .before .before in
-    on-side (seen done) (is-above (start done .args .grid) (start done .args .p))
+    let at = start done in
+    let later = done .before .before .before .before .if1 .left in
+    on-side (seen done) (is-above (at .args .grid) (at .args .p)) (one-above (at .args .grid) (at .args .p) later)
 
 pub visit-up-spec : {M : Type 1} → statement M
 visit-up-spec = tie.close (tie.spec cast-width returns visit-requires same-length returns-2)

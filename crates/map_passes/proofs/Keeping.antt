@@ -1,0 +1,40 @@
+-- The words of the nodes are as they were where only the third part is written.
+use Prim.Native.Nat.{ℕ, _+_, _*_, _<_}
+use mathlib.Core.List.{List}
+use mathlib.Core.Path.{_≡_}
+use native.Mathlib.Omega.{arith}
+use lib.ListN.{length}
+use Rattle.grid.specs.declared.Grid.{Grid}
+use Rattle.levels.specs.Workspace.{number-at, closed-of, lowest-of, up-of, held-of}
+use Rattle.numbers.specs.Nodes.{NodesOf}
+use Rattle.numbers.proofs.Same.{nodes-same}
+use Rattle.map_passes.specs.Passes.{Kept}
+
+-- what is read of the words that are kept
+module _ {n : ℕ} {ws ws' : List ℕ} (kept : Kept n ws ws') where
+  pub kept-lowest : (k : ℕ) → lowest-of n ws' k ≡ lowest-of n ws k
+  kept-lowest k = kept .back (3 * n + 3 * k) (omega arith)
+
+  pub kept-up : (k : ℕ) → up-of n ws' k ≡ up-of n ws k
+  kept-up k = kept .back (3 * n + 3 * k + 1) (omega arith)
+
+  pub kept-held : (k : ℕ) → held-of n ws' k ≡ held-of n ws k
+  kept-held k = kept .back (3 * n + 3 * k + 2) (omega arith)
+
+  pub kept-closed : (i : ℕ) → i < n → closed-of n ws' i ≡ closed-of n ws i
+  kept-closed i b = kept .front (n + i) (omega arith)
+
+  pub kept-number : (q : ℕ) → q < n → number-at ws' q ≡ number-at ws q
+  kept-number q b = kept .front q (omega arith)
+
+-- so they stand for the same nodes
+pub nodes-kept : (grid : Grid) (a : ℕ) (picture : List ℕ) {ws ws' : List ℕ} {nodes : ℕ} → Kept (length picture) ws ws'
+    → NodesOf grid a picture ws nodes → NodesOf grid a picture ws' nodes
+nodes-kept grid a picture kept N =
+    nodes-same
+    (kept-number kept)
+    (λ k b. kept-lowest kept k)
+    (λ k b. kept-up kept k)
+    (λ k b. kept-held kept k)
+    (λ i b. kept-closed kept i (omega (arith, N .few)))
+    N

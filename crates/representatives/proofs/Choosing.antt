@@ -1,0 +1,40 @@
+-- A choice between two words by arithmetic: a test as a number, and the sum of two products by it. Assumes nothing.
+use Prim.Native.Nat.{ℕ, zero, suc, _+_, _-_, _*_, _/_, _≤_, _<_}
+use mathlib.Core.Bool.{Bool, true, false, cond}
+use mathlib.Core.Logic.{⊎-elim}
+use mathlib.Core.Path.{_≡_, refl}
+use native.Mathlib.Omega.{arith}
+use lib.Dec.{eqb}
+use borrow.Author.Tests.{eqb-true, eqb-false}
+use Rattle.sets.proofs.Tests.{decided}
+use Rattle.causes.specs.Bounds.{most-pixels}
+use Rattle.levels.proofs.Counts.{bit}
+
+-- 2 to the power 32 less a smaller number is below it unless that number is 0
+pub same-quotient : {low q : ℕ} → low ≤ q → q ≤ most-pixels → (4294967296 - (q - low)) / 4294967296 ≡ bit (eqb low q)
+same-quotient {low} {q} l b =
+    ⊎-elim
+    (λ t. let e : low ≡ q = eqb-true low q t in rw t (omega arith))
+    (λ t. let ne : low ≡ q → ⊥ = eqb-false low q t in rw t (omega arith))
+    (decided (eqb low q))
+
+-- what holds of 0 and of 1 holds of a number that is at most 1
+zero-or-one : (P : ℕ → Type 0) → P 0 → P 1 → (one : ℕ) → one ≤ 1 → P one
+zero-or-one P at-0 at-1 zero l = at-0
+zero-or-one P at-0 at-1 (suc zero) l = at-1
+zero-or-one P at-0 at-1 (suc (suc i)) l = absurd (omega arith)
+
+pub sum-chosen : (a b one : ℕ) → one ≤ 1 → a * one + b * (1 - one) ≡ cond (eqb one 1) a b
+sum-chosen a b = zero-or-one (λ (i : ℕ). a * i + b * (1 - i) ≡ cond (eqb i 1) a b) (omega arith) (omega arith)
+
+pub sum-below : {m a b one : ℕ} → a < m → b < m → one ≤ 1 → a * one + b * (1 - one) < m
+sum-below {m} {a} {b} {one} la lb = zero-or-one (λ (i : ℕ). a * i + b * (1 - i) < m) (omega arith) (omega arith) one
+
+pub bit-most : (t : Bool) → bit t ≤ 1
+bit-most true = omega arith
+bit-most false = omega arith
+
+-- a choice by the number of a test is the choice by the test
+pub by-test : (t : Bool) {one : ℕ} → one ≡ bit t → eqb one 1 ≡ t
+by-test true e = rw e refl
+by-test false e = rw e refl
