@@ -1,5 +1,5 @@
--- A choice between two words by arithmetic: a test as a number, and the sum of two products by it. Assumes nothing.
-use Prim.Native.Nat.{ℕ, zero, suc, _+_, _-_, _*_, _/_, _≤_, _<_}
+-- A choice between two words by arithmetic: a test as a number, and a step from one word to the other times it. Assumes nothing.
+use Prim.Native.Nat.{ℕ, zero, suc, _+_, _-_, _*_, _/_, _%_, _≤_, _<_}
 use mathlib.Core.Bool.{Bool, true, false, cond}
 use mathlib.Core.Logic.{⊎-elim}
 use mathlib.Core.Path.{_≡_, refl}
@@ -24,11 +24,15 @@ zero-or-one P at-0 at-1 zero l = at-0
 zero-or-one P at-0 at-1 (suc zero) l = at-1
 zero-or-one P at-0 at-1 (suc (suc i)) l = absurd (omega arith)
 
-pub sum-chosen : (a b one : ℕ) → one ≤ 1 → a * one + b * (1 - one) ≡ cond (eqb one 1) a b
-sum-chosen a b = zero-or-one (λ (i : ℕ). a * i + b * (1 - i) ≡ cond (eqb i 1) a b) (omega arith) (omega arith)
+-- from b a step to a, or none, within 32 bits
+pub step-chosen :
+    {a b one : ℕ} → a < 4294967296 → b < 4294967296 → one ≤ 1
+    → (b + (4294967296 + a - b) * one) % 4294967296 ≡ cond (eqb one 1) a b
+step-chosen {a} {b} {one} la lb =
+    zero-or-one (λ (i : ℕ). (b + (4294967296 + a - b) * i) % 4294967296 ≡ cond (eqb i 1) a b) (omega arith) (omega arith) one
 
-pub sum-below : {m a b one : ℕ} → a < m → b < m → one ≤ 1 → a * one + b * (1 - one) < m
-sum-below {m} {a} {b} {one} la lb = zero-or-one (λ (i : ℕ). a * i + b * (1 - i) < m) (omega arith) (omega arith) one
+pub step-below : {a b one : ℕ} → a < 4294967296 → b < 4294967296 → one ≤ 1 → b + (4294967296 + a - b) * one < 8589934592
+step-below {a} {b} {one} la lb = zero-or-one (λ (i : ℕ). b + (4294967296 + a - b) * i < 8589934592) (omega arith) (omega arith) one
 
 pub bit-most : (t : Bool) → bit t ≤ 1
 bit-most true = omega arith

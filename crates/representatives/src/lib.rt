@@ -8,20 +8,22 @@ ghost use Rattle.representatives.specs.Representatives.{Writable, is-low
 
 // 1 if low is q, which is not below it, else 0. Here and in `chosen` there is arithmetic in place of an `if`, since a choice that depends
 // on a load must not become a branch: the loads would follow it, and no processor can guess which pixels are representatives.
-fn one_if_same(low: usize, q: usize) -> u32
+fn one_if_same(low: usize, q: usize) -> usize
     requires { ⌜ low ≤ q ⌝ }
     requires { ⌜ q ≤ most-pixels ⌝ }
     ensures { λ r. ⌜ r ≡ cond (eqb low q) 1 0 ⌝ }
 {
-    ((4294967296 - (q - low)) / 4294967296) as u32
+    (4294967296 - (q - low)) / 4294967296
 }
 
-// The word a for 1, the word b for 0.
-fn chosen(one: u32, a: u32, b: u32) -> u32
+// The word a for 1, the word b for 0: one product, taken within 32 bits.
+fn chosen(one: usize, a: u32, b: u32) -> u32
     requires { ⌜ one ≤ 1 ⌝ }
     ensures { λ r. ⌜ r ≡ cond (eqb one 1) a b ⌝ }
 {
-    a * one + b * (1 - one)
+    let from = b as usize;
+    let to = a as usize;
+    ((from + (4294967296 + to - from) * one) % 4294967296) as u32
 }
 
 // The words of the pixel q, the first that is not written yet: the lowest own pixel of a node is its representative. Its parent word is
@@ -41,7 +43,7 @@ fn write_pixel(n: usize, q: usize, listed: usize, ws: &mut [u32]) -> usize
     ws[q] = chosen(one, parent, low);
     ws[n + q] = chosen(one, held, 0);
     ws[2 * n + listed] = q as u32;
-    one as usize
+    one
 }
 
 // The words of the record, straight over the positions. Part 3 receives the representatives: the list's length grows by 1 for a

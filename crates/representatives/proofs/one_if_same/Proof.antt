@@ -10,11 +10,8 @@ sub-result c = search needs
 sub-result-2 : tie.Need-sub-result-2
 sub-result-2 c = search needs
 
-cast-result : tie.Need-cast-result
-cast-result c = search needs
-
 returns : tie.Need-returns
 returns c = same-quotient (c .pre .0) (c .pre .1)
 
 pub one-if-same-spec : {M : Type 1} → statement M
-one-if-same-spec = tie.close (tie.spec sub-result sub-result-2 cast-result returns)
+one-if-same-spec = tie.close (tie.spec sub-result sub-result-2 returns)

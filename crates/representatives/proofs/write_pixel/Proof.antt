@@ -116,9 +116,6 @@ slice-write-ws-3 c =
     let start = c .before .before .before .before .before .before .before .before .before in
     simp length-set (omega (arith, start .pre .sized .words))
 
-cast-result : tie.Need-cast-result
-cast-result c = search needs
-
 same-length : tie.Need-same-length
 same-length c = search needs
 
@@ -167,6 +164,5 @@ write-pixel-spec =
     add-ws-2
     mul-ws-4
     slice-write-ws-3
-    cast-result
     same-length
     returns)
