@@ -35,15 +35,14 @@ module _ {n : ℕ} {g : ℕ → ℕ} {s : State} (B : Untouched n g s) where
       record {
         range = λ q h. omega (arith, unmet-all q h);
         roots = λ k h. omega (arith, closed-all k h);
-        room = all-room;
+        room = λ k h. omega (arith, all-room k h);
         low = λ k h. omega (arith, heads k h);
         high = λ k h. omega (arith, heads k h, tails k h);
-        placed = λ k i h lo hi. absurd (omega (arith, tails k h));
-        place = λ q h m. absurd (omega (arith, unmet-all q h));
+        placed = λ k i h lo hi. absurd (omega (arith, heads k h, tails k h));
+        met = λ q h m. absurd (omega (arith, unmet-all q h));
         open-root = λ k h o. absurd (omega (arith, closed-all k h));
         idle = λ k h o. heads k h ∙ sym (tails k h);
         waiting = λ k i h lo hi. absurd (omega (arith, heads k h, tails k h));
-        finished = λ k i h lo hi. absurd (omega (arith, heads k h));
         rooted = λ q h m. absurd (omega (arith, unmet-all q h));
         links = λ h G C.
             record {

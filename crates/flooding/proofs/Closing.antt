@@ -2,7 +2,7 @@
 -- there.
 use Prim.Native.Nat.{ℕ, suc, _+_, _≤_, _<_}
 use mathlib.Core.Bool.{Bool, _&&_}
-use mathlib.Core.Logic.{inl, inr}
+use mathlib.Core.Logic.{_⊎_, inl, inr}
 use mathlib.Core.Path.{_≡_, sym, ap, _∙_}
 use native.Mathlib.Omega.{arith}
 use lib.Dec.{eqb}
@@ -11,7 +11,7 @@ use Rattle.sets.proofs.Laws.{count-ext}
 use Rattle.connected.specs.Component.{Adjacency}
 use Rattle.levels.specs.Levels.{darker}
 use Rattle.levels.proofs.Counts.{by-cases, equal-or-not, below-or-not}
-use Rattle.flooding.specs.Flooding.{Joined, same, back, then, State, unmet-count, Contains, Links, Rooted, Opened, Placed, Place, Sound, At, Closed}
+use Rattle.flooding.specs.Flooding.{Joined, same, back, then, State, unmet-count, Contains, Links, Rooted, Opened, Finished, Placed, Waits, Sound, At, Closed}
 use Rattle.flooding.proofs.Finishing.{Empty}
 use Rattle.flooding.proofs.Meeting.{tail-le, finished-kept}
 
@@ -114,14 +114,11 @@ module _ {n : ℕ} {adj : Adjacency} {g : ℕ → ℕ} {s s' : State} (S : Sound
             (λ dark. rw (only dark k hk ok lk, only dark j hj oj lj) same)
             (λ hm. then (back (anchor hm k hk ok lk)) (anchor hm j hj oj lj))
 
-    new-room : (k : ℕ) → k < 256 → s' .tail k + unmet-count n g (s' .par) k ≡ darker n g (suc k)
+    new-room : (k : ℕ) → k < 256 → s' .tail k + unmet-count n g (s' .par) k ≤ darker n g (suc k)
     new-room k hk =
         rw
-        (C .tail k)
-        (ap
-        (λ (u : ℕ). s .tail k + u)
-        (count-ext n _ _ (λ x hx. ap (λ (b : Bool). b && eqb (g x) k) (test x hx)))
-        ∙ S .room k hk)
+        (C .tail k, count-ext n _ _ (λ x hx. ap (λ (b : Bool). b && eqb (g x) k) (test x hx)))
+        (S .room k hk)
       where
         test : (x : ℕ) → x < n → eqb (s' .par x) n ≡ eqb (s .par x) n
         test x hx =
@@ -188,22 +185,25 @@ module _ {n : ℕ} {adj : Adjacency} {g : ℕ → ℕ} {s s' : State} (S : Sound
             (C .root .there k hk (not-closed k hk ok), C .root .there j hj (not-closed j hj oj))
             (old .across k j hk hj (was-open k hk ok) (was-open j hj oj) lk lj)
 
-    new-placed : (k i : ℕ) → k < 256 → darker n g k ≤ i → i < s' .tail k → Placed n g s' k i
+    new-placed : (k i : ℕ) → k < 256 → s' .head k ≤ i → i < s' .tail k → Placed n g s' k i
     new-placed k i hk low hi =
         let h : i < s .tail k = rw (C .tail k) at hi in
-        let old = S .placed k i hk low h in
+        let old = S .placed k i hk (rw (C .head k) at low) h in
         let o = keep-ord k i hk h in
         record { within = rw o (old .within); grey = rw o (old .grey); met = rw o (keep-met (s .ord i) (old .within) (old .met)) }
 
-    new-place : (x : ℕ) → x < n → s' .par x < n → Place n g s' x
-    new-place x hx hm =
-        let old = S .place x hx (was-met x hx hm) in
-        record {
+    new-met : (x : ℕ) → x < n → s' .par x < n → Waits g s' x ⊎ Finished n adj g s' x
+    new-met x hx hm =
+        by-cases
+        (S .met x hx (was-met x hx hm))
+        (λ old.
+        inl (record {
           at = old .at;
-          low = old .low;
+          low = rw (C .head (g x)) (old .low);
           high = rw (C .tail (g x)) (old .high);
           holds = keep-ord (g x) (old .at) (byte x hx) (old .high) ∙ old .holds;
-        }
+        }))
+        (λ old. inr (finished-kept keep-met weaker x old))
 
     new-open : (k : ℕ) → k < 256 → s' .root k < n → Opened g s' k
     new-open k hk o =
@@ -219,7 +219,7 @@ module _ {n : ℕ} {adj : Adjacency} {g : ℕ → ℕ} {s s' : State} (S : Sound
     new-waiting k i hk li hi =
         let a : s .head k ≤ i = rw (C .head k) at li in
         let b : i < s .tail k = rw (C .tail k) at hi in
-        let old = S .placed k i hk (omega (arith, S .low k hk)) b in
+        let old = S .placed k i hk a b in
         let ne : k ≡ l → ⊥ = λ e.
         let x : s .head k ≡ s .head l = ap (s .head) e in
         let y : s .tail k ≡ s .tail l = ap (s .tail) e in
@@ -248,7 +248,7 @@ module _ {n : ℕ} {adj : Adjacency} {g : ℕ → ℕ} {s s' : State} (S : Sound
           low = λ k hk. rw (C .head k) (S .low k hk);
           high = λ k hk. rw (C .head k, C .tail k) (S .high k hk);
           placed = new-placed;
-          place = new-place;
+          met = new-met;
           open-root = new-open;
           idle = λ k hk o.
               rw
@@ -258,9 +258,6 @@ module _ {n : ℕ} {adj : Adjacency} {g : ℕ → ℕ} {s s' : State} (S : Sound
               (λ e. rw e (E .drained))
               (λ ne. S .idle k hk (rw (C .root .there k hk ne) at o)));
           waiting = new-waiting;
-          finished = λ k i hk li hi.
-              let h : i < s .head k = rw (C .head k) at hi in
-              rw (keep-ord k i hk (omega (arith, S .high k hk))) (finished-kept keep-met weaker (s .ord i) (S .finished k i hk li h));
           rooted = new-rooted;
           links = new-links;
         }

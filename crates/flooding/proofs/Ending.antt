@@ -26,11 +26,7 @@ module _ {n : ℕ} {adj : Adjacency} {g : ℕ → ℕ} {s : State} (S : Sound n 
 
     finished : (q : ℕ) → q < n → s .par q < n → Finished n adj g s q
     finished q hq m =
-        let at = S .place q hq m in
-        rw
-        (at .holds)
-        at
-        (S .finished (g q) (at .at) (byte q hq) (at .low) (omega (arith, at .high, drained (g q) (byte q hq))))
+        by-cases (S .met q hq m) (λ w. absurd (omega (arith, w .low, w .high, drained (g q) (byte q hq)))) (λ f. f)
 
     -- by position, through a neighbour before it
     met-below : (k q : ℕ) → q < k → q < n → s .par q < n

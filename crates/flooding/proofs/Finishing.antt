@@ -1,13 +1,13 @@
 -- The pixel at the head of the current level is finished once all its neighbours are met: the head moves on.
 use Prim.Native.Nat.{ℕ, suc, _≤_, _<_}
 use mathlib.Core.Bool.{true}
-use mathlib.Core.Path.{_≡_, ap, _∙_}
+use mathlib.Core.Logic.{_⊎_, inl, inr}
+use mathlib.Core.Path.{_≡_, sym, ap, _∙_}
 use native.Mathlib.Omega.{arith}
 use Rattle.connected.specs.Component.{Adjacency, Symmetric}
-use Rattle.levels.specs.Levels.{darker}
 use Rattle.levels.specs.Tables.{Changed}
 use Rattle.levels.proofs.Counts.{by-cases, equal-or-not, below-or-not}
-use Rattle.flooding.specs.Flooding.{Joined, back, then, State, Links, Finished, Sound, At}
+use Rattle.flooding.specs.Flooding.{Joined, back, then, State, Links, Finished, Waits, Sound, At}
 use Rattle.flooding.proofs.Meeting.{finished-kept}
 
 -- the same state with other heads
@@ -31,10 +31,10 @@ module _ {n : ℕ} {adj : Adjacency} {g : ℕ → ℕ} {s : State} (S : Sound n 
     waits = A .busy c (A .level) (A .open-here)
 
     in-p : p < n
-    in-p = rw here at (S .placed c (s .head c) (A .level) (S .low c (A .level)) waits .within)
+    in-p = rw here at (S .placed c (s .head c) (A .level) (omega arith) waits .within)
 
     grey-p : g p ≡ c
-    grey-p = rw here at (S .placed c (s .head c) (A .level) (S .low c (A .level)) waits .grey)
+    grey-p = rw here at (S .placed c (s .head c) (A .level) (omega arith) waits .grey)
 
     root-p : s .par p ≡ s .root c
     root-p = rw here at (S .waiting c (s .head c) (A .level) (omega arith) waits)
@@ -49,16 +49,12 @@ module _ {n : ℕ} {adj : Adjacency} {g : ℕ → ℕ} {s : State} (S : Sound n 
     joins :
         (q : ℕ) → q < n → adj p q ≡ true → (h : ℕ) (G : Adjacency) → Links n g s h G → h ≤ g p → h ≤ g q → Joined G p q
     joins q hq a h G L lp lq =
-        let at = S .place q hq (all-met q hq a) in
         let k = g q in
         let hk = byte q hq in
         by-cases
-        (below-or-not (at .at) (s .head k))
-        (λ done.
-        back
-        (rw (at .holds) at (S .finished k (at .at) hk (at .low) done .joined) p in-p (flip p q a) h G L lq lp))
-        (λ wait.
-        let w : s .par q ≡ s .root k = rw (at .holds) at (S .waiting k (at .at) hk wait (at .high)) in
+        (S .met q hq (all-met q hq a))
+        (λ at.
+        let w : s .par q ≡ s .root k = rw (at .holds) at (S .waiting k (at .at) hk (at .low) (at .high)) in
         let o : s .root k < n = rw w at (all-met q hq a) in
         let hc : h ≤ c = rw grey-p at lp in
         then
@@ -66,6 +62,7 @@ module _ {n : ℕ} {adj : Adjacency} {g : ℕ → ℕ} {s : State} (S : Sound n 
         (then
         (L .across c k (A .level) hk (A .open-here) o hc lq)
         (back (to-root h G L q k hq hk o w lq))))
+        (λ done. back (done .joined p in-p (flip p q a) h G L lq lp))
 
     module _ {head' : ℕ → ℕ} (H : Changed 256 (s .head) head' c (suc (s .head c))) where
       same-links : (h : ℕ) (G : Adjacency) → Links n g (with-heads s head') h G → Links n g s h G
@@ -81,23 +78,27 @@ module _ {n : ℕ} {adj : Adjacency} {g : ℕ → ℕ} {s : State} (S : Sound n 
           (λ e. rw e (omega (arith, H .here)))
           (λ ne. omega (arith, H .there k hk ne))
 
-      new-finished :
-          (k i : ℕ) → k < 256 → darker n g k ≤ i → i < head' k → Finished n adj g (with-heads s head') (s .ord i)
-      new-finished k i hk lo hi =
+      -- a pixel that waits does so still, unless it is the one that is finished
+      new-met : (x : ℕ) → x < n → s .par x < n → Waits g (with-heads s head') x ⊎ Finished n adj g (with-heads s head') x
+      new-met x hx m =
           by-cases
-          (below-or-not i (s .head k))
-          (λ old. keep-finished (s .ord i) (S .finished k i hk lo old))
-          (λ new.
+          (S .met x hx m)
+          (λ old.
           by-cases
-          (equal-or-not k c)
-          (λ e.
-          let top : head' k ≡ suc (s .head c) = rw e (H .here) in
-          let hd : s .head k ≡ s .head c = ap (s .head) e in
-          let i-is : i ≡ s .head c = omega arith in
-          rw
-          (i-is, here)
-          (keep-finished p (record { met = all-met; joined = joins })))
-          (λ ne. absurd (omega (arith, H .there k hk ne))))
+          (below-or-not (old .at) (head' (g x)))
+          (λ passed. inr (rw (sym (old .holds) ∙ at-head old passed ∙ here) (keep-finished p (record { met = all-met; joined = joins }))))
+          (λ still. inl (record { at = old .at; low = still; high = old .high; holds = old .holds })))
+          (λ old. inr (keep-finished x old))
+        where
+          at-head : (old : Waits g s x) → old .at < head' (g x) → s .ord (old .at) ≡ s .ord (s .head c)
+          at-head old passed =
+              by-cases
+              (equal-or-not (g x) c)
+              (λ e.
+              let top : head' (g x) ≡ suc (s .head c) = rw e (H .here) in
+              let hd : s .head (g x) ≡ s .head c = ap (s .head) e in
+              ap (s .ord) (omega (arith, old .low)))
+              (λ ne. absurd (omega (arith, old .low, H .there (g x) (byte x hx) ne)))
 
       pub finished-sound : Sound n adj g (with-heads s head')
       finished-sound =
@@ -112,11 +113,9 @@ module _ {n : ℕ} {adj : Adjacency} {g : ℕ → ℕ} {s : State} (S : Sound n 
                 (λ e. rw e (omega (arith, H .here, waits)))
                 (λ ne. rw (H .there k hk ne) (S .high k hk));
             placed = λ k i hk lo hi.
-                let old = S .placed k i hk lo hi in
+                let old = S .placed k i hk (omega (arith, head-up k hk)) hi in
                 record { within = old .within; grey = old .grey; met = old .met };
-            place = λ x hx m.
-                let old = S .place x hx m in
-                record { at = old .at; low = old .low; high = old .high; holds = old .holds };
+            met = new-met;
             open-root = λ k hk o.
                 let old = S .open-root k hk o in
                 record { grey = old .grey; own = old .own };
@@ -124,7 +123,6 @@ module _ {n : ℕ} {adj : Adjacency} {g : ℕ → ℕ} {s : State} (S : Sound n 
                 H .there k hk (λ e. let z : s .root k ≡ s .root c = ap (s .root) e in omega (arith, A .open-here))
                 ∙ S .idle k hk o;
             waiting = λ k i hk lo hi. S .waiting k i hk (omega (arith, head-up k hk)) hi;
-            finished = new-finished;
             rooted = S .rooted;
             links = λ h G C.
                 let L = S .links h G C in

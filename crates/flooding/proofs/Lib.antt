@@ -1,5 +1,6 @@
 pub mod Meeting
 pub mod Finishing
+pub mod Following
 pub mod Closing
 pub mod Beginning
 pub mod Ending

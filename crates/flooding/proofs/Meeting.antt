@@ -12,7 +12,7 @@ use Rattle.sets.proofs.Laws.{count-ext, count-le, count-some}
 use Rattle.connected.specs.Component.{Adjacency}
 use Rattle.levels.specs.Levels.{darker}
 use Rattle.levels.proofs.Counts.{by-cases, equal-or-not, below-or-not, count-without, darker-mono}
-use Rattle.flooding.specs.Flooding.{Joined, same, back, then, State, unmet-count, Contains, Links, Finished, Rooted, Opened, Placed, Place, Sound, At, Pushed}
+use Rattle.flooding.specs.Flooding.{Joined, same, back, then, State, unmet-count, Contains, Links, Finished, Rooted, Opened, Placed, Waits, Sound, At, Pushed}
 
 false-and : (a b : Bool) → a ≡ false → a && b ≡ false
 false-and a b e = rw e refl
@@ -99,7 +99,7 @@ module _ {n : ℕ} {adj : Adjacency} {g : ℕ → ℕ} {s s' : State} (S : Sound
     was-open k hk h = ⊎-elim inl (λ ne. inr (rw (P .root .there k hk ne) at h)) (equal-or-not k l)
 
     -- the room in the run
-    room-here : s .tail l + suc (unmet-count n g (s' .par) l) ≡ darker n g (suc l)
+    room-here : s .tail l + suc (unmet-count n g (s' .par) l) ≤ darker n g (suc l)
     room-here =
         rw (sym less) at (S .room l lo)
       where
@@ -127,18 +127,18 @@ module _ {n : ℕ} {adj : Adjacency} {g : ℕ → ℕ} {s s' : State} (S : Sound
         there x hx nx = ap (λ (y : ℕ). eqb y n && eqb (g x) k) (P .par .there x hx nx)
 
     -- the places of the runs
-    not-end : (k i : ℕ) → k < 256 → darker n g k ≤ i → i < s .tail k → i ≡ s .tail l → ⊥
+    not-end : (k i : ℕ) → k < 256 → s .head k ≤ i → i < s .tail k → i ≡ s .tail l → ⊥
     not-end k i hk lo-i hi-i e =
         ⊎-elim
         (λ h. omega (arith, S .room k hk, S .low l lo, S .high l lo, darker-mono n g (suc k) l h))
         (λ h.
         ⊎-elim
         (λ e'. let z : s .tail k ≡ s .tail l = ap (s .tail) e' in omega arith)
-        (λ ne. omega (arith, room-here, darker-mono n g (suc l) k (omega arith)))
+        (λ ne. omega (arith, room-here, S .low k hk, darker-mono n g (suc l) k (omega arith)))
         (equal-or-not k l))
         (below-or-not k l)
 
-    keep-ord : (k i : ℕ) → k < 256 → darker n g k ≤ i → i < s .tail k → s' .ord i ≡ s .ord i
+    pub keep-ord : (k i : ℕ) → k < 256 → s .head k ≤ i → i < s .tail k → s' .ord i ≡ s .ord i
     keep-ord k i hk lo-i hi-i = P .ord .there i (omega (arith, tail-le S k hk)) (not-end k i hk lo-i hi-i)
 
     was-in : (k i : ℕ) → k < 256 → i < s' .tail k → ((k ≡ l) × (i ≡ s .tail l)) ⊎ (i < s .tail k)
@@ -169,16 +169,16 @@ module _ {n : ℕ} {adj : Adjacency} {g : ℕ → ℕ} {s s' : State} (S : Sound
         }
 
     -- the fields one by one
-    new-room : (k : ℕ) → k < 256 → s' .tail k + unmet-count n g (s' .par) k ≡ darker n g (suc k)
+    new-room : (k : ℕ) → k < 256 → s' .tail k + unmet-count n g (s' .par) k ≤ darker n g (suc k)
     new-room k hk = ⊎-elim here there (equal-or-not k l)
       where
-        here : k ≡ l → s' .tail k + unmet-count n g (s' .par) k ≡ darker n g (suc k)
+        here : k ≡ l → s' .tail k + unmet-count n g (s' .par) k ≤ darker n g (suc k)
         here e = rw e (omega (arith, room-here, P .tail .here))
 
-        there : (k ≡ l → ⊥) → s' .tail k + unmet-count n g (s' .par) k ≡ darker n g (suc k)
+        there : (k ≡ l → ⊥) → s' .tail k + unmet-count n g (s' .par) k ≤ darker n g (suc k)
         there ne = rw (P .tail .there k hk ne, room-there k hk ne) (S .room k hk)
 
-    new-placed : (k i : ℕ) → k < 256 → darker n g k ≤ i → i < s' .tail k → Placed n g s' k i
+    new-placed : (k i : ℕ) → k < 256 → s' .head k ≤ i → i < s' .tail k → Placed n g s' k i
     new-placed k i hk lo-i hi-i = ⊎-elim here there (was-in k i hk hi-i)
       where
         here : (k ≡ l) × (i ≡ s .tail l) → Placed n g s' k i
@@ -188,32 +188,36 @@ module _ {n : ℕ} {adj : Adjacency} {g : ℕ → ℕ} {s s' : State} (S : Sound
 
         there : i < s .tail k → Placed n g s' k i
         there h =
-            let o = keep-ord k i hk lo-i h in
-            let old = S .placed k i hk lo-i h in
+            let from : s .head k ≤ i = rw (P .head k) at lo-i in
+            let o = keep-ord k i hk from h in
+            let old = S .placed k i hk from h in
             record { within = rw o (old .within); grey = rw o (old .grey); met = rw o (keep-met (s .ord i) (old .within) (old .met)) }
 
-    new-place : (x : ℕ) → g x < 256 → x < n → s' .par x < n → Place n g s' x
-    new-place x bx hx h = ⊎-elim here there (was-met x hx h)
+    new-met : (x : ℕ) → g x < 256 → x < n → s' .par x < n → Waits g s' x ⊎ Finished n adj g s' x
+    new-met x bx hx h = by-cases (was-met x hx h) here there
       where
-        here : x ≡ q → Place n g s' x
+        here : x ≡ q → Waits g s' x ⊎ Finished n adj g s' x
         here e =
             let gx : g x ≡ l = ap g e ∙ grey-q in
-            record {
+            inl (record {
               at = s .tail l;
-              low = rw gx (omega (arith, S .low l lo, S .high l lo));
+              low = rw (gx, P .head l) (S .high l lo);
               high = rw gx (omega (arith, P .tail .here));
               holds = P .ord .here ∙ sym e;
-            }
+            })
 
-        there : s .par x < n → Place n g s' x
+        there : s .par x < n → Waits g s' x ⊎ Finished n adj g s' x
         there m =
-            let old = S .place x hx m in
-            record {
+            by-cases
+            (S .met x hx m)
+            (λ old.
+            inl (record {
               at = old .at;
-              low = old .low;
+              low = rw (P .head (g x)) (old .low);
               high = omega (arith, old .high, tail-up (g x) bx);
               holds = keep-ord (g x) (old .at) bx (old .low) (old .high) ∙ old .holds;
-            }
+            }))
+            (λ old. inr (finished-kept keep-met weaker x old))
 
     new-open : (k : ℕ) → k < 256 → s' .root k < n → Opened g s' k
     new-open k hk h = ⊎-elim here there (was-open k hk h)
@@ -250,19 +254,11 @@ module _ {n : ℕ} {adj : Adjacency} {g : ℕ → ℕ} {s s' : State} (S : Sound
         there : i < s .tail k → s' .par (s' .ord i) ≡ s' .root k
         there h =
             let from : s .head k ≤ i = rw (P .head k) at lo-i in
-            let run : darker n g k ≤ i = omega (arith, S .low k hk) in
-            let old = S .placed k i hk run h in
+            let old = S .placed k i hk from h in
             let w = S .waiting k i hk from h in
             rw
-            (keep-ord k i hk run h)
+            (keep-ord k i hk from h)
             (keep (s .ord i) (old .within) (old .met) ∙ w ∙ sym (keep-root k hk (rw w at (old .met))))
-
-    new-finished : (k i : ℕ) → k < 256 → darker n g k ≤ i → i < s' .head k → Finished n adj g s' (s' .ord i)
-    new-finished k i hk lo-i hi-i =
-        let h : i < s .head k = rw (P .head k) at hi-i in
-        rw
-        (keep-ord k i hk lo-i (omega (arith, S .high k hk)))
-        (finished-kept keep-met weaker (s .ord i) (S .finished k i hk lo-i h))
 
     new-rooted : (x : ℕ) → x < n → s' .par x < n → Rooted n g (s' .par) x
     new-rooted x hx h = ⊎-elim here there (was-met x hx h)
@@ -345,11 +341,10 @@ module _ {n : ℕ} {adj : Adjacency} {g : ℕ → ℕ} {s s' : State} (S : Sound
           low = λ k hk. rw (P .head k) (S .low k hk);
           high = λ k hk. rw (P .head k) (omega (arith, S .high k hk, tail-up k hk));
           placed = new-placed;
-          place = λ x hx. new-place x (byte x hx) hx;
+          met = λ x hx. new-met x (byte x hx) hx;
           open-root = new-open;
           idle = new-idle;
           waiting = new-waiting;
-          finished = new-finished;
           rooted = new-rooted;
           links = new-links reach;
         }
@@ -380,16 +375,15 @@ module _ {n : ℕ} {adj : Adjacency} {g : ℕ → ℕ} {s s' : State} (S : Sound
 
     -- the place of a waiting pixel stays
     pub met-ord : (k : ℕ) → k < 256 → s .head k < s .tail k → s' .ord (s .head k) ≡ s .ord (s .head k)
-    met-ord k hk h = keep-ord k (s .head k) hk (S .low k hk) h
+    met-ord k hk h = keep-ord k (s .head k) hk (omega arith) h
 
 -- an unmet neighbour of the pixel at the head of the brightest open level
 pub reaches :
     {n : ℕ} {adj : Adjacency} {g : ℕ → ℕ} {s : State} {c p q : ℕ} → Sound n adj g s → At n s c → s .ord (s .head c) ≡ p
     → q < n → adj p q ≡ true → Reaches n adj g s (g q) q
 reaches {n} {g = g} {s = s} {c} {p} {q} S A here hq a h G C hl k hk o lk =
-    let run = S .low c (A .level) in
     let busy = A .busy c (A .level) (A .open-here) in
-    let P = S .placed c (s .head c) (A .level) run busy in
+    let P = S .placed c (s .head c) (A .level) (omega arith) busy in
     let hp : p < n = rw here at (P .within) in
     let gp : g p ≡ c = rw here at (P .grey) in
     let w : s .par p ≡ s .root c = rw here at (S .waiting c (s .head c) (A .level) (omega arith) busy) in

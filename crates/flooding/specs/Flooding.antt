@@ -56,16 +56,16 @@ pub record Opened (g : ℕ → ℕ) (s : State) (k : ℕ) : Type 0 where
   pub grey : g (s .root k) ≡ k
   pub own : s .par (s .root k) ≡ s .root k
 
--- a place in use in the run of level k
+-- a place in the run of level k at which a pixel waits
 pub record Placed (n : ℕ) (g : ℕ → ℕ) (s : State) (k i : ℕ) : Type 0 where
   pub within : s .ord i < n
   pub grey : g (s .ord i) ≡ k
   pub met : s .par (s .ord i) < n
 
--- the place of q in the run of its level
-pub record Place (n : ℕ) (g : ℕ → ℕ) (s : State) (q : ℕ) : Type 0 where
+-- q waits in the run of its level, for its neighbours to be met
+pub record Waits (g : ℕ → ℕ) (s : State) (q : ℕ) : Type 0 where
   pub at : ℕ
-  pub low : darker n g (g q) ≤ at
+  pub low : s .head (g q) ≤ at
   pub high : at < s .tail (g q)
   pub holds : s .ord at ≡ q
 
@@ -73,15 +73,14 @@ pub record Place (n : ℕ) (g : ℕ → ℕ) (s : State) (q : ℕ) : Type 0 wher
 pub record Sound (n : ℕ) (adj : Adjacency) (g : ℕ → ℕ) (s : State) : Type 0 where
   pub range : (q : ℕ) → q < n → s .par q ≤ n
   pub roots : (k : ℕ) → k < 256 → s .root k ≤ n
-  pub room : (k : ℕ) → k < 256 → s .tail k + unmet-count n g (s .par) k ≡ darker n g (suc k)
+  pub room : (k : ℕ) → k < 256 → s .tail k + unmet-count n g (s .par) k ≤ darker n g (suc k)
   pub low : (k : ℕ) → k < 256 → darker n g k ≤ s .head k
   pub high : (k : ℕ) → k < 256 → s .head k ≤ s .tail k
-  pub placed : (k i : ℕ) → k < 256 → darker n g k ≤ i → i < s .tail k → Placed n g s k i
-  pub place : (q : ℕ) → q < n → s .par q < n → Place n g s q
+  pub placed : (k i : ℕ) → k < 256 → s .head k ≤ i → i < s .tail k → Placed n g s k i
+  pub met : (q : ℕ) → q < n → s .par q < n → Waits g s q ⊎ Finished n adj g s q
   pub open-root : (k : ℕ) → k < 256 → s .root k < n → Opened g s k
   pub idle : (k : ℕ) → k < 256 → n ≤ s .root k → s .head k ≡ s .tail k
   pub waiting : (k i : ℕ) → k < 256 → s .head k ≤ i → i < s .tail k → s .par (s .ord i) ≡ s .root k
-  pub finished : (k i : ℕ) → k < 256 → darker n g k ≤ i → i < s .head k → Finished n adj g s (s .ord i)
   pub rooted : (q : ℕ) → q < n → s .par q < n → Rooted n g (s .par) q
   pub links : (h : ℕ) (G : Adjacency) → Contains n adj g h G → Links n g s h G
 
