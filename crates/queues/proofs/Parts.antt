@@ -11,11 +11,12 @@ use lib.ListN.{getD, length, set, length-set}
 use lib.Seq.{getD-set-same, getD-set-other}
 use Rattle.causes.specs.Bounds.{words-a-pixel, most-pixels}
 use Rattle.levels.specs.Tables.{Changed}
-use Rattle.levels.specs.Workspace.{number-at, closed-of, order-of, up-of}
+use Rattle.levels.specs.Workspace.{Sized, number-at, closed-of, order-of, up-of}
 use Rattle.levels.proofs.Counts.{by-cases}
 use Rattle.levels.proofs.Tables.{stored}
+use Rattle.flooding.specs.Numbers.{Numbering}
 use Rattle.queues.specs.Marks.{digit, mark}
-use Rattle.queues.specs.Queues.{Nameable, Naming, Fitting, Placing, NoneOpen, NextOpen, NextBelow, Closable, Shut}
+use Rattle.queues.specs.Queues.{numbers-of, Nextable, Nameable, Naming, Puttable, pushed-words, Fitting, Placing, Replaceable, Replacing, NoneOpen, NextOpen, NextBelow, Closable, Shut}
 use Rattle.queues.proofs.Marks.{set-here, set-there, bit-fits, clear-here, clear-there, one-shifted, remarked, remarked-wide, word-kept, number-stored, past-kept, number-kept, mark-opened, mark-closed, marks-kept}
 
 -- two stores, seen in a table whose entry x stands at place x of the words: an entry that both miss, and one that the first or the
@@ -46,10 +47,6 @@ module _ (ws : List ℕ) (a v b w : ℕ) (place : ℕ → ℕ) where
         here = rw e (getD-set-same (set ws a v) b w 0 (rw (length-set ws a v) inside));
         there = λ x h nx. missed x (others x h nx .0) (others x h nx .1);
       }
-
--- the number k at pixel q, and q at place t of the queues
-abbrev pub pushed-words : ℕ → List ℕ → ℕ → ℕ → ℕ → List ℕ
-pushed-words n ws q k t = set (set ws q k) (2 * n + t) q
 
 module _ (n : ℕ) (ws : List ℕ) (size : length ws ≡ words-a-pixel * n) (q k t : ℕ) (in-q : q < n) (in-t : t < n) where
   number-pushed : Changed n (number-at ws) (number-at (pushed-words n ws q k t)) q k
@@ -151,36 +148,60 @@ module _ {n l : ℕ} {opened : List ℕ} (N : Nameable n l opened) where
             (ap (λ (y : ℕ). digit y (l % 64)) is ∙ set-here w (l % 64)));
       }
 
--- q in the run of its level, with the number k
+-- q at the place t of the runs, with the number k
+numbering-pushed :
+    {n q l k t : ℕ} {ws opened opened' : List ℕ} → Sized n ws → q < n → t < n → Naming n l opened k opened'
+    → let ws' = pushed-words n ws q k t in
+    Numbering n l q (number-at ws' q) (numbers-of n ws opened) (numbers-of n ws' opened')
+numbering-pushed {n} {q} {k = k} {t} {ws} size in-q in-t N =
+    let num = number-pushed n ws (size .words) q k t in-q in-t in
+    rw
+    (num .here)
+    (record {
+      which = N .which;
+      num = num;
+      open-at = N .open-at;
+      up = up-pushed n ws (size .words) q k t in-q in-t;
+      closed = closed-pushed n ws (size .words) q k t in-q in-t;
+      done = N .done;
+    })
+
+-- q at the end of the run of its level
 pub placing :
     {n q l k : ℕ} {ws tails opened opened' : List ℕ} → Fitting n q l ws tails opened → Naming n l opened k opened'
     → Placing n q l ws tails opened (pushed-words n ws q k (getD tails l 0)) (set tails l (getD tails l 0 + 1)) opened'
 placing {n} {q} {l} {k} {ws} {tails} F N =
     let t = getD tails l 0 in
-    let size = F .sized .words in
-    let num = number-pushed n ws size q k t (F .within) (F .free) in
     record {
       wide-tails = length-set tails l _ ∙ F .wide-tails;
       wide-opened = N .wide;
       marks = N .marks;
-      numbering =
-          rw
-          (num .here)
-          (record {
-            which = N .which;
-            num = num;
-            open-at = N .open-at;
-            up = up-pushed n ws size q k t (F .within) (F .free);
-            closed = closed-pushed n ws size q k t (F .within) (F .free);
-            done = N .done;
-          });
-      ord = order-pushed n ws size q k t (F .within) (F .free);
+      numbering = numbering-pushed (F .sized) (F .within) (F .free) N;
+      ord = order-pushed n ws (F .sized .words) q k t (F .within) (F .free);
       tail = rw (← add-one t) (stored 256 tails l (t + 1) (omega (arith, F .nameable .level, F .wide-tails)));
     }
 
-pub number-small :
-    {n l k : ℕ} {opened opened' : List ℕ} → Nameable n l opened → Naming n l opened k opened' → k < n
+-- q in place of another pixel of the run of its level
+pub replacing :
+    {n q l t : ℕ} {ws opened : List ℕ} → Replaceable n q l t ws opened
+    → Replacing n q l t ws opened (pushed-words n ws q (getD opened l 0) t)
+replacing {n} {q} {l} {t} {ws} {opened} R =
+    record {
+      numbering =
+          numbering-pushed (R .sized) (R .within) (R .place) (named-open (R .nameable) (λ e. omega (arith, R .open-here)));
+      ord = order-pushed n ws (R .sized .words) q (getD opened l 0) t (R .within) (R .place);
+    }
+
+number-small : {n l k : ℕ} {opened opened' : List ℕ} → Nameable n l opened → Naming n l opened k opened' → k < n
 number-small N M = by-cases (M .which) (λ o. omega arith) (λ f. omega (arith, N .left (f .0)))
+
+pub nextable : {n l : ℕ} {opened : List ℕ} → Nameable n l opened → getD opened l 0 ≡ n → Nextable l opened
+nextable N e = record { level = N .level; small = omega (arith, N .left e, N .small) }
+
+pub puttable :
+    {n q l k : ℕ} {ws tails opened opened' : List ℕ} → Fitting n q l ws tails opened → Naming n l opened k opened'
+    → Puttable n q k (getD tails l 0) ws
+puttable F N = record { sized = F .sized; within = F .within; number = number-small (F .nameable) N; place = F .free }
 
 -- the node of level l closed
 module _ {n l : ℕ} {ws opened : List ℕ} (C : Closable n ws opened l) where

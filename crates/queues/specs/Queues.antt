@@ -1,9 +1,9 @@
 -- The queues of the levels and the numbers of the nodes, on the lists that their functions are lent.
-use Prim.Native.Nat.{ℕ, suc, _≤_, _<_}
+use Prim.Native.Nat.{ℕ, suc, _+_, _*_, _≤_, _<_}
 use mathlib.Core.List.{List}
 use mathlib.Core.Logic.{_⊎_}
 use mathlib.Core.Path.{_≡_}
-use lib.ListN.{getD, length}
+use lib.ListN.{getD, length, set}
 use Rattle.causes.specs.Bounds.{most-pixels}
 use Rattle.levels.specs.Tables.{Changed}
 use Rattle.levels.specs.Workspace.{Sized, number-at, closed-of, order-of, up-of}
@@ -70,6 +70,25 @@ pub record Naming (n l : ℕ) (opened : List ℕ) (k : ℕ) (opened' : List ℕ)
   pub wide : length opened' ≡ 262
   pub marks : Marked n opened'
 
+-- a further number of level l can be counted, and what is taken then, if no node of the level was open
+pub record Nextable (l : ℕ) (opened : List ℕ) : Type 0 where
+  pub level : l < 256
+  pub small : taken-of opened < most-pixels
+
+abbrev pub NextNamed : ℕ → List ℕ → ℕ → List ℕ → Type 0
+NextNamed l opened k opened' = (n : ℕ) → Nameable n l opened → getD opened l 0 ≡ n → Naming n l opened k opened'
+
+-- the number k and the place t can be stored for the pixel q
+pub record Puttable (n q k t : ℕ) (ws : List ℕ) : Type 0 where
+  pub sized : Sized n ws
+  pub within : q < n
+  pub number : k < n
+  pub place : t < n
+
+-- the number k at pixel q, and q at the place t of the runs
+abbrev pub pushed-words : ℕ → List ℕ → ℕ → ℕ → ℕ → List ℕ
+pushed-words n ws q k t = set (set ws q k) (2 * n + t) q
+
 -- there is room for q at the end of the run of level l, and a number for it
 pub record Fitting (n q l : ℕ) (ws tails opened : List ℕ) : Type 0 where
   pub sized : Sized n ws
@@ -86,6 +105,19 @@ pub record Placing (n q l : ℕ) (ws tails opened ws' tails' opened' : List ℕ)
   pub numbering : Numbering n l q (number-at ws' q) (numbers-of n ws opened) (numbers-of n ws' opened')
   pub ord : Changed n (order-of n ws) (order-of n ws') (getD tails l 0) q
   pub tail : Changed 256 (λ k. getD tails k 0) (λ k. getD tails' k 0) l (suc (getD tails l 0))
+
+-- a node of level l is open, and t is a place of the runs
+pub record Replaceable (n q l t : ℕ) (ws opened : List ℕ) : Type 0 where
+  pub sized : Sized n ws
+  pub within : q < n
+  pub place : t < n
+  pub nameable : Nameable n l opened
+  pub open-here : getD opened l 0 < n
+
+-- q stands at the place t, and has the number of the open node of level l
+pub record Replacing (n q l t : ℕ) (ws opened ws' : List ℕ) : Type 0 where
+  pub numbering : Numbering n l q (number-at ws' q) (numbers-of n ws opened) (numbers-of n ws' opened)
+  pub ord : Changed n (order-of n ws) (order-of n ws') t q
 
 -- no level below l is open
 abbrev pub NoneOpen : ℕ → List ℕ → ℕ → Type 0

@@ -1,9 +1,23 @@
 // The queues of the levels: each level has a run of part 3, a head and a tail in it, and the number of its open node. After the numbers
 // of the open nodes stand four words for the set of the open levels, one bit a level, how many numbers are taken, and how many nodes
 // are closed.
+ghost use mathlib.Core.Path.{_≡_};
 ghost use Prim.Native.Nat.{_<_};
 ghost use Rattle.queues.specs.Marks.{Marked, Highest};
-ghost use Rattle.queues.specs.Queues.{Nameable, Naming, Fitting, Placing, NextBelow, Closable, ClosedTo};
+ghost use lib.ListN.{getD};
+ghost use Rattle.queues.specs.Queues.{Nextable, NextNamed, Nameable, Naming, Puttable, pushed-words, Fitting, Placing, Replaceable, Replacing, NextBelow, Closable, ClosedTo};
+
+// Opens a node of level l, where none is open, under the next number.
+fn next_number(l: usize, opened: &mut [usize; 262]) -> usize
+    requires { ⌜ Nextable l (now opened) ⌝ }
+    ensures { λ k. ⌜ NextNamed l (now (opened .entry)) k (now (opened .exit)) ⌝ }
+{
+    let k = opened[260];
+    opened[l] = k;
+    opened[256 + l / 64] = opened[256 + l / 64] | (1 << (l % 64));
+    opened[260] = k + 1;
+    k
+}
 
 // The number of the open node of level l. Where none is open the next number opens one.
 fn take_number(n: usize, l: usize, opened: &mut [usize; 262]) -> usize
@@ -14,14 +28,19 @@ fn take_number(n: usize, l: usize, opened: &mut [usize; 262]) -> usize
     if held != n {
         return held;
     }
-    let k = opened[260];
-    opened[l] = k;
-    opened[256 + l / 64] = opened[256 + l / 64] | (1 << (l % 64));
-    opened[260] = k + 1;
-    k
+    next_number(l, opened)
 }
 
-// Puts q at the end of the run of level l, and notes the number of its node in part 1.
+// Notes the number k of the pixel q in part 1, and puts q at the place t of the runs.
+fn put(n: usize, q: usize, k: usize, t: usize, ws: &mut [u32])
+    requires { ⌜ Puttable n q k t (now ws) ⌝ }
+    ensures { λ _. ⌜ now (ws .exit) ≡ pushed-words n (now (ws .entry)) q k t ⌝ }
+{
+    ws[q] = k as u32;
+    ws[2 * n + t] = q as u32;
+}
+
+// Puts q at the end of the run of level l, and notes the number of its node.
 pub fn push(
     n: usize,
     q: usize,
@@ -36,8 +55,34 @@ pub fn push(
     let k = take_number(n, l, opened);
     let t = tails[l];
     tails[l] = t + 1;
-    ws[q] = k as u32;
-    ws[2 * n + t] = q as u32;
+    put(n, q, k, t, ws);
+}
+
+// The same where no node of level l is open, so that nothing need be asked.
+pub fn push_first(
+    n: usize,
+    q: usize,
+    l: usize,
+    ws: &mut [u32],
+    tails: &mut [usize; 256],
+    opened: &mut [usize; 262],
+)
+    requires { ⌜ Fitting n q l (now ws) (now tails) (now opened) ⌝ }
+    requires { ⌜ getD (now opened) l 0 ≡ n ⌝ }
+    ensures { λ _. ⌜ Placing n q l (now (ws .entry)) (now (tails .entry)) (now (opened .entry)) (now (ws .exit)) (now (tails .exit)) (now (opened .exit)) ⌝ }
+{
+    let k = next_number(l, opened);
+    let t = tails[l];
+    tails[l] = t + 1;
+    put(n, q, k, t, ws);
+}
+
+// Puts q at the place t of the run of level l, at which a node is open, in place of the pixel that stands there.
+pub fn replace(n: usize, q: usize, l: usize, t: usize, ws: &mut [u32], opened: &[usize; 262])
+    requires { ⌜ Replaceable n q l t (now ws) (now opened) ⌝ }
+    ensures { λ _. ⌜ Replacing n q l t (now (ws .entry)) (now (opened .entry)) (now (ws .exit)) ⌝ }
+{
+    put(n, q, opened[l], t, ws);
 }
 
 // The place of the highest set bit of a word.
