@@ -13,8 +13,9 @@ use Rattle.sets.proofs.Tests.{or-left, or-right}
 use Rattle.grid.specs.Neighbours.{edge-neighbours, adjacent}
 use Rattle.grid.specs.declared.Grid.{Grid}
 use Rattle.grid.proofs.Sides.{to-right, to-below, to-left, to-above, side-of, below-is, right-is, right-inside, is-next-in-row, is-next-in-column, row-ends, row-goes-on, row-in}
+use Rattle.levels.proofs.Counts.{by-cases}
 use Rattle.queues.specs.Queues.{Lists}
-use Rattle.visits.specs.Visits.{Standing, Visiting, above, left-of, right-of, below, Visited}
+use Rattle.visits.specs.Visits.{Standing, Visiting, above, left-of, right-of, below, Visited, Met-but}
 use Rattle.visits.proofs.Visits.{standing-in, visiting, stays}
 
 -- what shares an edge with p is a neighbour
@@ -26,20 +27,26 @@ beside grid p q e = e
 abbrev pub either-side : (Grid → ℕ → Positions) → (Grid → ℕ → Positions) → Grid → ℕ → Positions
 either-side one other grid p q = one grid p q || other grid p q
 
-abbrev pub around : Grid → ℕ → Positions
-around = either-side (either-side (either-side above left-of) right-of) below
+abbrev pub not-right : Grid → ℕ → Positions
+not-right = either-side (either-side above left-of) below
 
-pub all-around : (grid : Grid) (p q : ℕ) → adjacent grid p q ≡ true → around grid p q ≡ true
+all-around : (grid : Grid) (p q : ℕ) → adjacent grid p q ≡ true → (right-of grid p q ≡ true) ⊎ (not-right grid p q ≡ true)
 unfolding adjacent
 all-around grid p q e = sides (side-of (grid .width) p q e)
   where
     sides :
         ((right-of grid p q ≡ true) ⊎ (below grid p q ≡ true)) ⊎ ((left-of grid p q ≡ true) ⊎ (above grid p q ≡ true))
-        → around grid p q ≡ true
-    sides (inl (inl e)) = or-left _ _ (or-right (either-side above left-of grid p q) _ e)
-    sides (inl (inr e)) = or-right (either-side (either-side above left-of) right-of grid p q) _ e
-    sides (inr (inl e)) = or-left _ _ (or-left _ _ (or-right (above grid p q) _ e))
-    sides (inr (inr e)) = or-left _ _ (or-left _ _ (or-left (above grid p q) _ e))
+        → (right-of grid p q ≡ true) ⊎ (not-right grid p q ≡ true)
+    sides (inl (inl e)) = inl e
+    sides (inl (inr e)) = inr (or-right (either-side above left-of grid p q) _ e)
+    sides (inr (inl e)) = inr (or-left _ _ (or-right (above grid p q) _ e))
+    sides (inr (inr e)) = inr (or-left _ _ (or-left (above grid p q) _ e))
+
+-- after the visits of the other sides
+pub met-but-right :
+    {grid : Grid} {picture : List ℕ} {s s' : Lists} {l : ℕ} (p : ℕ) → Visited grid picture s s' l l (not-right grid p)
+    → Met-but grid picture s' p (right-of grid p)
+met-but-right {grid} p U x hx a = by-cases (all-around grid p x a) inl (λ e. inr (U .met refl x hx e))
 
 -- the pixel that a side has, and that it has no other
 module _ (grid : Grid) (p : ℕ) where

@@ -1,26 +1,29 @@
 -- A visit of a neighbour on the lists: nothing is stored where it is met, and where it is not it is put into its queue.
 use Prim.Native.Nat.{ℕ, suc, _≤_, _<_}
-use mathlib.Core.Bool.{true, _||_}
+use mathlib.Core.Bool.{true, _&&_, _||_}
 use mathlib.Core.List.{List}
 use mathlib.Core.Logic.{_⊎_}
 use mathlib.Core.Path.{_≡_, refl, sym, ap, _∙_}
 use native.Mathlib.Omega.{arith}
-use lib.Dec.{eqb}
+use lib.Dec.{eqb, ltb}
 use lib.ListN.{getD, length}
-use borrow.Author.Tests.{eqb-true, eq-eqb}
-use Rattle.sets.specs.Sets.{Positions}
-use Rattle.sets.proofs.Tests.{or-cases, or-right}
+use borrow.Author.Tests.{eqb-true, eq-eqb, lt-ltb, le-ltb}
+use Rattle.sets.specs.Sets.{Positions, count}
+use Rattle.sets.proofs.Tests.{and-left, and-right, or-cases, or-right}
 use Rattle.grid.specs.Neighbours.{adjacent}
 use Rattle.grid.specs.declared.Grid.{Grid}
-use Rattle.levels.specs.Levels.{grey, entry-sum}
+use Rattle.grid.proofs.Attributes.{adjacent-symmetric}
+use Rattle.levels.specs.Levels.{grey}
+use Rattle.levels.specs.Tables.{Changed}
 use Rattle.levels.specs.Workspace.{number-at, order-of}
 use Rattle.levels.proofs.Counts.{by-cases, equal-or-not, below-or-not}
-use Rattle.levels.proofs.Tables.{sum-raised}
 use Rattle.flooding.specs.Flooding.{Placed, Pushed}
 use Rattle.flooding.proofs.Meeting.{met-sound, met-at, met-ord, tail-le, tail-lt, reaches}
-use Rattle.flooding.proofs.Numbers.{taken-fits, pushed-number-fits, Renamed, named-pushed}
-use Rattle.queues.specs.Queues.{Lists, lists, numbers-of, state-of, Fitting, Placing}
-use Rattle.visits.specs.Visits.{head-pixel, Ready, Standing, StandsAt, Visiting, Visited, VisitedAround}
+use Rattle.flooding.proofs.Following.{followed-sound, followed-at}
+use Rattle.flooding.proofs.Named.{turned-back, count-stored}
+use Rattle.flooding.proofs.Numbers.{taken-fits, pushed-number-fits, open-number, open-root, Renamed, named-pushed}
+use Rattle.queues.specs.Queues.{Lists, lists, numbers-of, state-of, Fitting, Placing, Replaceable, Replacing}
+use Rattle.visits.specs.Visits.{head-pixel, Ready, Standing, StandsAt, Visiting, Visited, Met-but, VisitedAround}
 
 -- a pixel in its queue, and the parents and roots that the numbers stand for then, are a step of the flood
 pub pushes :
@@ -39,6 +42,14 @@ pushes heads P N =
       head = λ k. refl;
     }
 
+-- a pixel that was not met and is
+one-more-met :
+    {n q : ℕ} (ws ws' : List ℕ) → Changed n (number-at ws) (number-at ws') q (number-at ws' q) → q < n → number-at ws q ≡ n
+    → number-at ws' q < n
+    → count n (λ (x : ℕ). ltb (number-at ws' x) n) ≡ suc (count n (λ (x : ℕ). ltb (number-at ws x) n))
+one-more-met {n} {q} ws ws' C h new fits =
+    count-stored n (λ (k : ℕ). ltb k n) (turned-back C) h (lt-ltb (number-at ws' q) n fits) (le-ltb (number-at ws q) n (omega arith))
+
 -- the pixel where the flood stands, and the visits of its neighbours
 module _ {grid : Grid} {picture : List ℕ} {s : Lists} {l p : ℕ} (S : Standing grid picture s l p) where
   head-placed :
@@ -47,7 +58,7 @@ module _ {grid : Grid} {picture : List ℕ} {s : Lists} {l p : ℕ} (S : Standin
   head-placed =
       let R = S .ready in
       let A = R .at in
-      R .sound .placed l _ (A .level) (R .sound .low l (A .level)) (A .busy l (A .level) (A .open-here))
+      R .sound .placed l _ (A .level) (omega arith) (A .busy l (A .level) (A .open-here))
 
   pub standing-in : p < length picture
   standing-in = rw (S .here) at (head-placed .within)
@@ -55,6 +66,9 @@ module _ {grid : Grid} {picture : List ℕ} {s : Lists} {l p : ℕ} (S : Standin
   -- its grey is the level
   pub standing-grey : grey picture p ≡ l
   standing-grey = rw (S .here) at (head-placed .grey)
+
+  standing-met : S .ready .par p < length picture
+  standing-met = rw (S .here) at (head-placed .met)
 
   pub stands-at : StandsAt grid picture s p
   stands-at = rw standing-grey S
@@ -151,16 +165,29 @@ module _ {grid : Grid} {picture : List ℕ} {s : Lists} where
           met = λ e. absurd (ne (sym (standing-grey T) ∙ ap (grey picture) e ∙ standing-grey S));
         }
 
-    -- the flood stays, and every neighbour is on the sides visited
-    pub all-met : r ≡ l → ((x : ℕ) → adjacent grid p x ≡ true → side x ≡ true) → VisitedAround grid picture s s' p p
-    all-met e sub =
+    -- the flood stays, and every other neighbour was met before
+    pub all-met : r ≡ l → Met-but grid picture s p side → VisitedAround grid picture s s' p p
+    all-met e others =
         record {
           stands = stands-at (still S (settle U e));
           same-heads = U .same-heads;
           more = U .more;
           raised = λ ne. absurd (ne refl);
-          met = λ same x hx h. U .met e x hx (sub x h);
+          met = λ same x hx h. by-cases (others x hx h) (U .met e x hx) (U .kept x hx);
         }
+
+  -- the last visit after others that stay
+  pub then-last :
+      {s₁ s₂ : Lists} {l p q : ℕ} {side : Positions} → Visited grid picture s s₁ l l side → VisitedAround grid picture s₁ s₂ p q
+      → VisitedAround grid picture s s₂ p q
+  then-last A B =
+      record {
+        stands = B .stands;
+        same-heads = B .same-heads ∙ A .same-heads;
+        more = omega (arith, A .more, B .more);
+        raised = λ ne. omega (arith, A .more, B .raised ne);
+        met = B .met;
+      }
 
   -- the root of an open level is a pixel of it
   pub root-greys :
@@ -174,6 +201,21 @@ module _ {grid : Grid} {picture : List ℕ} {s : Lists} where
     pub already : (number-at (s .words) q ≡ length picture → ⊥) → Visited grid picture s s l l (eqb q)
     already ne =
         stays R (λ x hx h. let e = eqb-true q x h in rw (sym e) (omega (arith, R .named .range q (U .within))))
+
+    -- no node is open at a brighter level
+    no-root : l < grey picture q → length picture ≤ R .root (grey picture q)
+    no-root brighter =
+        by-cases
+        (below-or-not (R .root (grey picture q)) (length picture))
+        (λ o. absurd (omega (arith, R .at .top (grey picture q) (R .bytes q) o)))
+        (λ ge. ge)
+
+    pub not-open : l < grey picture q → getD (s .opened) (grey picture q) 0 ≡ length picture
+    not-open brighter =
+        by-cases
+        (below-or-not (getD (s .opened) (grey picture q) 0) (length picture))
+        (λ o. absurd (omega (arith, no-root brighter, open-root (R .named) (grey picture q) (R .bytes q) o)))
+        (λ ge. omega (arith, R .named .opens (grey picture q) (R .bytes q)))
 
     module _ (new : number-at (s .words) q ≡ length picture) where
       unmet : R .par q ≡ length picture
@@ -217,14 +259,7 @@ module _ {grid : Grid} {picture : List ℕ} {s : Lists} where
 
           -- the queue of a level that was not open was empty: q is at its head
           first-here : l < grey picture q → order-of (length picture) ws' (getD (s .heads) (grey picture q) 0) ≡ q
-          first-here brighter =
-              let closed : length picture ≤ R .root (grey picture q) =
-              by-cases
-              (below-or-not (R .root (grey picture q)) (length picture))
-              (λ o. absurd (omega (arith, R .at .top (grey picture q) (R .bytes q) o)))
-              (λ ge. ge)
-              in
-              rw (R .sound .idle (grey picture q) (R .bytes q) closed) (P .ord .here)
+          first-here brighter = rw (R .sound .idle (grey picture q) (R .bytes q) (no-root brighter)) (P .ord .here)
 
           pub queued :
               {r : ℕ} → ((l < grey picture q) × (r ≡ grey picture q)) ⊎ ((grey picture q ≤ l) × (r ≡ l))
@@ -233,9 +268,7 @@ module _ {grid : Grid} {picture : List ℕ} {s : Lists} where
               let A = R .at in
               let N = renamed in
               let step = pushes (s .heads) P N in
-              let raise : entry-sum tails' 256 ≡ suc (entry-sum (s .tails) 256) =
-              sum-raised 256 _ _ (grey picture q) (R .bytes q) (P .tail .here) (P .tail .there)
-              in
+              let raise = one-more-met (s .words) ws' (P .numbering .num) (U .within) new named-fits in
               record {
                 ready =
                     record {
@@ -270,3 +303,108 @@ module _ {grid : Grid} {picture : List ℕ} {s : Lists} where
                     (λ up. eq-eqb q _ (sym (rw (up .1) (first-here (up .0)))))
                     (λ same. absurd (ne (same .1)));
               }
+
+-- q, the neighbour of p on a side that has no other pixel, is not met and of p's level: it takes p's place at the head
+module _ {grid : Grid} {picture : List ℕ} {s : Lists} {l p q : ℕ} {side : Positions} (S : Standing grid picture s l p)
+    (others : Met-but grid picture s p side) (only : (x : ℕ) → side x ≡ true → x ≡ q) (U : Visiting grid picture s l q)
+    (fresh : eqb (number-at (s .words) q) (length picture) && eqb (grey picture q) l ≡ true)
+  where
+    in-q : q < length picture
+    in-q = U .within
+
+    next : adjacent grid p q ≡ true
+    next = rw (S .here) at (U .next)
+
+    new : number-at (s .words) q ≡ length picture
+    new = eqb-true _ _ (and-left (eqb (number-at (s .words) q) (length picture)) _ fresh)
+
+    level : grey picture q ≡ l
+    level = eqb-true _ _ (and-right (eqb (number-at (s .words) q) (length picture)) _ fresh)
+
+    abbrev ready : Ready grid picture s l
+    ready = S .ready
+
+    in-l : l < 256
+    in-l = ready .at .level
+
+    here-open : getD (s .opened) l 0 < length picture
+    here-open = open-number (ready .named) l in-l (ready .at .open-here)
+
+    pub replaceable : Replaceable (length picture) q l (getD (s .heads) l 0) (s .words) (s .opened)
+    replaceable =
+        record {
+          sized = ready .sized;
+          within = in-q;
+          place = head-in ready;
+          nameable =
+              record {
+                small = ready .sized .small;
+                level = in-l;
+                held = ready .named .opens l in-l;
+                left = λ e. taken-fits (ready .named) in-q new;
+                wide = ready .wide-opened;
+                marks = ready .marks;
+              };
+          open-here = here-open;
+        }
+
+    module _ {ws' : List ℕ} (same-length : length ws' ≡ length (s .words))
+        (P : Replacing (length picture) q l (getD (s .heads) l 0) (s .words) (s .opened) ws')
+      where
+        renamed' : Renamed (length picture) l q (grey picture) (ready .par) (ready .root) (numbers-of (length picture) ws' (s .opened))
+        renamed' = named-pushed (ready .named) (P .numbering) in-q in-l level new (root-greys ready)
+
+        root-is : renamed' .r ≡ ready .root l
+        root-is = by-cases (renamed' .root-is) (λ w. w .1) (λ w. absurd (omega (arith, ready .at .open-here, w .0)))
+
+        parents : (x : ℕ) → x < length picture → adjacent grid p x ≡ true → (x ≡ q → ⊥) → ready .par x < length picture
+        parents x hx a ne =
+            by-cases (others x hx a) (λ e. absurd (ne (only x e))) (λ m. ready .named .met x hx m .parent)
+
+        unmet-parent : ready .par q ≡ length picture
+        unmet-parent = ready .named .unmet q in-q new
+
+        -- p is met, and q was not
+        other : q ≡ p → ⊥
+        other e = let met : ready .par p < length picture = standing-met S in omega (arith, ap (ready .par) e, unmet-parent)
+
+        bytes : (x : ℕ) → x < length picture → grey picture x < 256
+        bytes x h = ready .bytes x
+
+        goes-on : Ready grid picture (lists ws' (s .heads) (s .tails) (s .opened)) l
+        goes-on =
+            let N = renamed' in
+            let pars = rw root-is at (N .par-changed) in
+            let roots = rw root-is at (N .root-changed) in
+            record {
+              bytes = ready .bytes;
+              whole = ready .whole;
+              wide = ready .wide;
+              sized = record { words = same-length ∙ ready .sized .words; small = ready .sized .small };
+              wide-heads = ready .wide-heads;
+              wide-tails = ready .wide-tails;
+              wide-opened = ready .wide-opened;
+              marks = ready .marks;
+              first = N .first';
+              par = N .par';
+              root = N .root';
+              named = N .named;
+              sound =
+                  followed-sound (ready .sound) bytes (adjacent-symmetric grid) (ready .at) (S .here) in-q level unmet-parent next
+                  parents pars (P .ord) roots;
+              at =
+                  followed-at (ready .sound) bytes (adjacent-symmetric grid) (ready .at) (S .here) in-q level unmet-parent next parents
+                  pars (P .ord) roots;
+            }
+
+        pub follows : VisitedAround grid picture s (lists ws' (s .heads) (s .tails) (s .opened)) p q
+        follows =
+            let fits = pushed-number-fits (ready .named) (P .numbering) in-q new in
+            let raise = one-more-met (s .words) ws' (P .numbering .num) in-q new fits in
+            record {
+              stands = stands-at (record { ready = goes-on; here = P .ord .here });
+              same-heads = refl;
+              more = omega arith;
+              raised = λ ne. omega arith;
+              met = λ e. absurd (other e);
+            }

@@ -2,15 +2,17 @@
 use Prim.Native.Nat.{ℕ, _≤_, _<_}
 use mathlib.Core.Bool.{true}
 use mathlib.Core.List.{List}
+use mathlib.Core.Logic.{_⊎_}
 use mathlib.Core.Path.{_≡_}
 use denote.Ref.{RefT, now}
 use denote.Triple.Both.{Both}
+use lib.Dec.{ltb}
 use lib.ListN.{getD, length}
-use Rattle.sets.specs.Sets.{Positions}
+use Rattle.sets.specs.Sets.{Positions, count}
 use Rattle.grid.specs.Pixels.{pixels}
 use Rattle.grid.specs.Neighbours.{next-in-row, next-in-column, adjacent}
 use Rattle.grid.specs.declared.Grid.{Grid}
-use Rattle.levels.specs.Levels.{grey, entry-sum}
+use Rattle.levels.specs.Levels.{grey}
 use Rattle.levels.specs.Workspace.{Sized, number-at, order-of}
 use Rattle.flooding.specs.Flooding.{Sound, At}
 use Rattle.flooding.specs.Numbers.{Named}
@@ -33,6 +35,10 @@ at-exit ws heads tails opened = held (ws .exit) (heads .exit) (tails .exit) (ope
 -- the pixel at the head of level l
 abbrev pub head-pixel : ℕ → Lists → ℕ → ℕ
 head-pixel n s l = order-of n (s .words) (getD (s .heads) l 0)
+
+-- how many of the n pixels are met
+abbrev pub met-count : ℕ → Lists → ℕ
+met-count n s = count n (λ (q : ℕ). ltb (number-at (s .words) q) n)
 
 -- the flood of a picture stands at level l: the numbers stand for parents and roots, which are not stored, and those with the queues for a
 -- state of the flood
@@ -87,15 +93,20 @@ pub record Visited (grid : Grid) (picture : List ℕ) (s s' : Lists) (l r : ℕ)
   pub same-heads : s' .heads ≡ s .heads
   pub same-head : head-pixel (length picture) s' l ≡ head-pixel (length picture) s l
   pub kept : (x : ℕ) → x < length picture → number-at (s .words) x < length picture → number-at (s' .words) x < length picture
-  pub more : entry-sum (s .tails) 256 ≤ entry-sum (s' .tails) 256
-  pub raised : (r ≡ l → ⊥) → entry-sum (s .tails) 256 < entry-sum (s' .tails) 256
+  pub more : met-count (length picture) s ≤ met-count (length picture) s'
+  pub raised : (r ≡ l → ⊥) → met-count (length picture) s < met-count (length picture) s'
   pub met : r ≡ l → (x : ℕ) → x < length picture → side x ≡ true → number-at (s' .words) x < length picture
   pub to : (r ≡ l → ⊥) → side (head-pixel (length picture) s' r) ≡ true
+
+-- every neighbour of p is met, but for the one on the side named
+abbrev pub Met-but : Grid → List ℕ → Lists → ℕ → Positions → Type 0
+Met-but grid picture s p side =
+    (x : ℕ) → x < length picture → adjacent grid p x ≡ true → (side x ≡ true) ⊎ (number-at (s .words) x < length picture)
 
 -- neighbours of the pixel p, at which the flood stood, were visited, and it stands at the pixel q; where that is p, all are met
 pub record VisitedAround (grid : Grid) (picture : List ℕ) (s s' : Lists) (p q : ℕ) : Type 0 where
   pub stands : StandsAt grid picture s' q
   pub same-heads : s' .heads ≡ s .heads
-  pub more : entry-sum (s .tails) 256 ≤ entry-sum (s' .tails) 256
-  pub raised : (q ≡ p → ⊥) → entry-sum (s .tails) 256 < entry-sum (s' .tails) 256
+  pub more : met-count (length picture) s ≤ met-count (length picture) s'
+  pub raised : (q ≡ p → ⊥) → met-count (length picture) s < met-count (length picture) s'
   pub met : q ≡ p → (x : ℕ) → x < length picture → adjacent grid p x ≡ true → number-at (s' .words) x < length picture

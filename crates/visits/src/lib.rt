@@ -1,8 +1,12 @@
 // The visits: each neighbour of the pixel at the head of the current level that is not met is put into its queue.
+ghost use mathlib.Core.Bool.{_&&_};
 ghost use mathlib.Core.Path.{_≡_};
-ghost use Prim.Native.Nat.{_%_};
+ghost use Prim.Native.Nat.{_%_, _<_};
 ghost use lib.Dec.{eqb};
-ghost use Rattle.visits.specs.Visits.{held, at-entry, at-exit, Standing, Visiting, above, left-of, right-of, below, Visited, VisitedAround};
+ghost use lib.ListN.{length};
+ghost use Rattle.levels.specs.Levels.{grey};
+ghost use Rattle.levels.specs.Workspace.{Sized, number-at};
+ghost use Rattle.visits.specs.Visits.{held, at-entry, at-exit, Standing, Visiting, above, left-of, right-of, below, Visited, Met-but, VisitedAround};
 use grid::Grid;
 
 // Visits the pixel q, a neighbour of the one at the head of the current level: it is put into its queue unless it is met. The answer is
@@ -25,10 +29,11 @@ fn visit(
         return level;
     }
     let l = picture[q] as usize;
-    queues::push(n, q, l, ws, tails, opened);
     if l > level {
+        queues::push_first(n, q, l, ws, tails, opened);
         return l;
     }
+    queues::push(n, q, l, ws, tails, opened);
     level
 }
 
@@ -96,7 +101,21 @@ fn visit_left(
     visit(picture, grid, p - 1, level, ws, heads, tails, opened)
 }
 
-// The neighbour right of p.
+// Whether the pixel q is not met and has the grey named.
+fn unmet_at(picture: &[u8], q: usize, level: usize, ws: &[u32]) -> bool
+    requires { ⌜ Sized (length (now picture)) (now ws) ⌝ }
+    requires { ⌜ q < length (now picture) ⌝ }
+    ensures { λ r. ⌜ r ≡ eqb (number-at (now (ws .entry)) q) (length (now (picture .entry))) && eqb (grey (now (picture .entry)) q) level ⌝ }
+{
+    if ws[q] as usize != picture.len() {
+        return false;
+    }
+    picture[q] as usize == level
+}
+
+// The neighbour right of p, the last one. Where it is not met and of the same level, p is done, and it takes p's place at the head of the
+// level: so the flood runs along a row, and the pixels that it queues stand together. The answer is the pixel at which it goes on, p
+// where it stays.
 fn visit_right(
     picture: &[u8],
     grid: Grid,
@@ -110,13 +129,24 @@ fn visit_right(
 ) -> usize
     requires { ⌜ Standing grid (now picture) (held ws heads tails opened) level p ⌝ }
     requires { ⌜ column ≡ p % grid .width ⌝ }
-    ensures { λ r. ⌜ Visited grid (now (picture .entry)) (at-entry ws heads tails opened) (at-exit ws heads tails opened) level r (right-of grid p) ⌝ }
+    requires { ⌜ Met-but grid (now picture) (held ws heads tails opened) p (right-of grid p) ⌝ }
+    ensures { λ q. ⌜ VisitedAround grid (now (picture .entry)) (at-entry ws heads tails opened) (at-exit ws heads tails opened) p q ⌝ }
 {
     let width = grid.width as usize;
     if column + 1 == width {
-        return level;
+        return p;
     }
-    visit(picture, grid, p + 1, level, ws, heads, tails, opened)
+    let q = p + 1;
+    if unmet_at(picture, q, level, ws) {
+        let head = heads[level];
+        queues::replace(picture.len(), q, level, head, ws, opened);
+        return q;
+    }
+    let right = visit(picture, grid, q, level, ws, heads, tails, opened);
+    if right != level {
+        return q;
+    }
+    p
 }
 
 // The neighbours of p, the pixel at the head of the current level, until one is brighter and was not met: the flood moves up to it
@@ -144,13 +174,9 @@ pub fn visit_around(
     if left != level {
         return p - 1;
     }
-    let right = visit_right(picture, grid, column, p, level, ws, heads, tails, opened);
-    if right != level {
-        return p + 1;
-    }
     let down = visit_down(picture, grid, p, level, ws, heads, tails, opened);
     if down != level {
         return p + width;
     }
-    p
+    visit_right(picture, grid, column, p, level, ws, heads, tails, opened)
 }

@@ -2,13 +2,10 @@
 use mathlib.Core.Logic.{inl, inr}
 use mathlib.Core.Path.{refl}
 use native.Mathlib.Omega.{arith}
+use Rattle.visits.proofs.Visits.{already, not-open, fits, queued}
 use borrow.Author.Needs.{needs}
-use Rattle.visits.proofs.Visits.{already, fits, queued}
 use Rattle.visits.proofs.visit.Statement.{statement}
 use Rattle.visits.proofs.visit.Tie as tie
-
-abbrev start : tie.Else1 → tie.Start
-start c = c .before .before .before .before
 
 mul-if1 : tie.Need-mul-if1
 mul-if1 c = search needs
@@ -17,7 +14,7 @@ slice-read-if1 : tie.Need-slice-read-if1
 slice-read-if1 c = search needs
 
 cast-if1 : tie.Need-cast-if1
-cast-if1 c = omega (arith, c .slice-known2 .given (c .before .before .before .args .q))
+cast-if1 c = omega (arith, c .slice-known2 .given ((c .before .before .before) .args .q))
 
 returns : tie.Need-returns
 returns c = already (c .before .before .before .before .pre) (c .if1 .taken)
@@ -26,28 +23,25 @@ shared-slice-read-l : tie.Need-shared-slice-read-l
 shared-slice-read-l c = search needs
 
 cast-l : tie.Need-cast-l
-cast-l c = omega (arith, c .shared-slice-known2 .given (c .before .before .before .before .before .args .q))
+cast-l c = omega (arith, c .shared-slice-known2 .given ((c .before .before .before .before .before) .args .q))
 
-push-requires : tie.Need-push-requires
-push-requires c κs = let new = c .before .before .before .before in fits (start new .pre) (new .if1 .left)
+push-first-requires : tie.Need-push-first-requires
+push-first-requires c κs = (fits (c .before .before .before .before .before .before .before .before .before .pre) (c .before .before .before .before .before .if1 .left), not-open (c .before .before .before .before .before .before .before .before .before .pre) (c .before .before .before .if2 .taken))
 
 same-length : tie.Need-same-length
 same-length c = search needs
 
 returns-2 : tie.Need-returns-2
-returns-2 c =
-    let done = c .before .before .before in
-    let new = done .before .before .before .before .before in
-    queued (start new .pre) (new .if1 .left) (done .push .kept .1 .1 .1 .0) (done .push .ensures) (inl (c .if2 .taken, refl))
+returns-2 c = queued (c .before .before .before .before .before .before .before .before .before .before .before .before .pre) (c .before .before .before .before .before .before .before .before .if1 .left) (c .before .before .push-first .kept .1 .1 .1 .0) (c .before .before .push-first .ensures) (inl (c .before .before .before .before .before .before .if2 .taken, refl))
+
+push-requires : tie.Need-push-requires
+push-requires c κs = fits (c .before .before .before .before .before .before .before .before .before .pre) (c .before .before .before .before .before .if1 .left)
 
 same-length-2 : tie.Need-same-length-2
 same-length-2 c = search needs
 
 returns-3 : tie.Need-returns-3
-returns-3 c =
-    let done = c .before .before .before in
-    let new = done .before .before .before .before .before in
-    queued (start new .pre) (new .if1 .left) (done .push .kept .1 .1 .1 .0) (done .push .ensures) (inr (c .if2 .left, refl))
+returns-3 c = queued (c .before .before .before .before .before .before .before .before .before .before .before .before .pre) (c .before .before .before .before .before .before .before .before .if1 .left) (c .before .before .push .kept .1 .1 .1 .0) (c .before .before .push .ensures) (inr (c .before .before .before .before .before .before .if2 .left, refl))
 
 pub visit-spec : {M : Type 1} → statement M
 visit-spec =
@@ -59,8 +53,9 @@ visit-spec =
     returns
     shared-slice-read-l
     cast-l
-    push-requires
+    push-first-requires
     same-length
     returns-2
+    push-requires
     same-length-2
     returns-3)

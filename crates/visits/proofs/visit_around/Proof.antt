@@ -1,7 +1,7 @@
 -- `visit_around` meets its contract. Each visit that stays at the level leaves the same pixel at its head for the next; one that does
 -- not leaves the pixel on its side at the head of the new level.
 use Prim.Native.Nat.{ℕ}
-use mathlib.Core.Path.{refl}
+use mathlib.Core.Path.{refl, sym, _∙_}
 use native.Mathlib.Nat.{mod-lt, mod-le}
 use native.Mathlib.Omega.{arith}
 use borrow.Author.Needs.{needs}
@@ -9,9 +9,9 @@ use Rattle.sets.specs.Sets.{Positions}
 use Rattle.grid.specs.declared.Grid.{Grid}
 use Rattle.grid.proofs.Sides.{below-is, right-is}
 use Rattle.queues.specs.Queues.{Lists, lists}
-use Rattle.visits.specs.Visits.{held, above, left-of, right-of, below, Visited}
-use Rattle.visits.proofs.Visits.{standing-in, settle, still, same-words, visits, climbs, all-met}
-use Rattle.visits.proofs.Beside.{is-above, is-left, is-right, is-below, either-side, around, all-around}
+use Rattle.visits.specs.Visits.{held, above, left-of, below, Visited}
+use Rattle.visits.proofs.Visits.{standing-in, settle, still, same-words, visits, climbs, then-last}
+use Rattle.visits.proofs.Beside.{is-above, is-left, is-below, either-side, not-right, met-but-right}
 use Rattle.visits.proofs.visit_around.Statement.{statement}
 use Rattle.visits.proofs.visit_around.Tie as tie
 
@@ -33,11 +33,8 @@ start c = c .before .before .before .before .before .before .before .before
 abbrev up : tie.After-visit-left → tie.After-visit-up
 up c = c .before .before .before .before .before .before .before
 
-abbrev left : tie.After-visit-right → tie.After-visit-left
+abbrev left : tie.After-visit-down → tie.After-visit-left
 left c = c .before .before .before .before .before .before .before
-
-abbrev right : tie.After-visit-down → tie.After-visit-right
-right c = c .before .before .before .before .before .before .before
 
 -- what each visit left, by itself and with those before it
 abbrev lists-up : tie.After-visit-up → Lists
@@ -58,35 +55,19 @@ upto-left :
     → Seen (start (up c)) (entry (start (up c))) (lists-left c) (c .visit-left .result) (either-side above left-of)
 upto-left c = visits (settle (seen-up (up c)) (c .before .before .before .before .if1 .left)) (seen-left c)
 
-abbrev lists-right : tie.After-visit-right → Lists
-lists-right c =
-    let last = c .visit-right .last .1 .1 .1 .1 .1 in
-    lists (last .0) (start (up (left c)) .args .heads .now) (last .1 .1 .0) (last .1 .1 .1 .0)
-
-seen-right : (c : tie.After-visit-right) → Seen (start (up (left c))) (lists-left (left c)) (lists-right c) (c .visit-right .result) right-of
-seen-right c = c .visit-right .ensures
-
-upto-right :
-    (c : tie.After-visit-right)
-    → let at = start (up (left c)) in
-    Seen at (entry at) (lists-right c) (c .visit-right .result) (either-side (either-side above left-of) right-of)
-upto-right c = visits (settle (upto-left (left c)) (c .before .before .before .before .if2 .left)) (seen-right c)
-
 abbrev lists-down : tie.After-visit-down → Lists
 lists-down c =
     let last = c .visit-down .last .1 .1 .1 .1 in
-    lists (last .0) (start (up (left (right c))) .args .heads .now) (last .1 .1 .0) (last .1 .1 .1 .0)
+    lists (last .0) (start (up (left c)) .args .heads .now) (last .1 .1 .0) (last .1 .1 .1 .0)
 
-seen-down :
-    (c : tie.After-visit-down)
-    → Seen (start (up (left (right c)))) (lists-right (right c)) (lists-down c) (c .visit-down .result) below
+seen-down : (c : tie.After-visit-down) → Seen (start (up (left c))) (lists-left (left c)) (lists-down c) (c .visit-down .result) below
 seen-down c = c .visit-down .ensures
 
 upto-down :
     (c : tie.After-visit-down)
-    → let at = start (up (left (right c))) in
-    Seen at (entry at) (lists-down c) (c .visit-down .result) around
-upto-down c = visits (settle (upto-right (right c)) (c .before .before .before .before .if3 .left)) (seen-down c)
+    → let at = start (up (left c)) in
+    Seen at (entry at) (lists-down c) (c .visit-down .result) not-right
+upto-down c = visits (settle (upto-left (left c)) (c .before .before .before .before .if2 .left)) (seen-down c)
 
 cast-width : tie.Need-cast-width
 cast-width c = search needs
@@ -142,48 +123,40 @@ returns-2 c =
     let at = start (up done) .args in
     climbs (upto-left done) (start (up done) .pre) (c .if2 .taken) (is-left (at .grid) (at .p) _ (seen-left done .to (c .if2 .taken)))
 
-visit-right-requires : tie.Need-visit-right-requires
-visit-right-requires c κs =
+visit-down-requires : tie.Need-visit-down-requires
+visit-down-requires c κs =
     let done = c .before .before .before .before .before .before in
-    (still (start (up done) .pre) (settle (upto-left done) (c .before .before .before .if2 .left)), refl)
-
-add-result : tie.Need-add-result
-add-result c = omega (arith, standing-in (start (up (left (c .before .before .before))) .pre))
+    still (start (up done) .pre) (settle (upto-left done) (c .before .before .before .if2 .left))
 
 same-length-3 : tie.Need-same-length-3
-same-length-3 c = let done = c .before .before .before in same-words (upto-right done) (start (up (left done)) .pre .ready)
+same-length-3 c = let done = c .before .before .before in same-words (upto-down done) (start (up (left done)) .pre .ready)
 
 returns-3 : tie.Need-returns-3
 returns-3 c =
     let done = c .before .before .before in
     let at = start (up (left done)) .args in
-    climbs (upto-right done) (start (up (left done)) .pre) (c .if3 .taken) (is-right (at .grid) (at .p) _ (seen-right done .to (c .if3 .taken)))
+    climbs (upto-down done) (start (up (left done)) .pre) (c .if3 .taken) (is-below (at .grid) (at .p) _ (seen-down done .to (c .if3 .taken)))
 
-visit-down-requires : tie.Need-visit-down-requires
-visit-down-requires c κs =
+add-result : tie.Need-add-result
+add-result c = omega (arith, standing-in (returns-3 c .stands))
+
+visit-right-requires : tie.Need-visit-right-requires
+visit-right-requires c κs =
     let done = c .before .before .before .before .before .before in
-    still (start (up (left done)) .pre) (settle (upto-right done) (c .before .before .before .if3 .left))
-
-same-length-4 : tie.Need-same-length-4
-same-length-4 c = let done = c .before .before .before in same-words (upto-down done) (start (up (left (right done))) .pre .ready)
+    let at = start (up (left done)) in
+    let stayed = settle (upto-down done) (c .before .before .before .if3 .left) in
+    (still (at .pre) stayed, (refl, met-but-right (at .args .p) stayed))
 
 returns-4 : tie.Need-returns-4
 returns-4 c =
-    let done = c .before .before .before in
-    let at = start (up (left (right done))) .args in
-    climbs (upto-down done) (start (up (left (right done))) .pre) (c .if4 .taken) (is-below (at .grid) (at .p) _ (seen-down done .to (c .if4 .taken)))
+    let last = c .before .before in
+    let stayed = last .before .before .before .before in
+    then-last (settle (upto-down (stayed .before .before .before)) (stayed .if3 .left)) (last .visit-right .ensures)
 
-add-result-2 : tie.Need-add-result-2
-add-result-2 c = omega (arith, standing-in (returns-4 c .stands))
-
-same-length-5 : tie.Need-same-length-5
-same-length-5 c = let done = c .before .before .before in same-words (upto-down done) (start (up (left (right done))) .pre .ready)
-
-returns-5 : tie.Need-returns-5
-returns-5 c =
-    let done = c .before .before .before in
-    let at = start (up (left (right done))) in
-    all-met (upto-down done) (at .pre) (c .if4 .left) (all-around (at .args .grid) (at .args .p))
+same-length-4 : tie.Need-same-length-4
+same-length-4 c =
+    let done = c .before .before .before .before .before .before .before .before .before in
+    returns-4 c .stands .ready .sized .words ∙ sym (start (up (left done)) .pre .ready .sized .words)
 
 pub visit-around-spec : {M : Type 1} → statement M
 visit-around-spec =
@@ -201,13 +174,10 @@ visit-around-spec =
     sub-result-2
     same-length-2
     returns-2
-    visit-right-requires
+    visit-down-requires
     add-result
     same-length-3
     returns-3
-    visit-down-requires
-    add-result-2
+    visit-right-requires
     same-length-4
-    returns-4
-    same-length-5
-    returns-5)
+    returns-4)
