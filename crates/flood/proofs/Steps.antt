@@ -3,16 +3,19 @@ use Prim.Native.Nat.{ℕ, suc, _+_, _*_, _-_, _≤_, _<_}
 use mathlib.Core.Bool.{true}
 use mathlib.Core.List.{List}
 use mathlib.Core.Logic.{_⊎_, inl, inr}
-use mathlib.Core.Path.{_≡_, refl, _∙_}
+use mathlib.Core.Path.{_≡_, refl, ap, _∙_}
 use native.Mathlib.Numerals.{add-one}
 use native.Mathlib.Omega.{arith}
+use lib.Dec.{ltb}
 use lib.ListN.{getD, length, set, length-set}
+use Rattle.sets.proofs.Laws.{count-ext, count-le}
 use Rattle.grid.specs.Neighbours.{adjacent}
 use Rattle.grid.specs.declared.Grid.{Grid}
 use Rattle.grid.proofs.Attributes.{adjacent-symmetric}
 use Rattle.grid.proofs.Sides.{adjacent-before}
 use Rattle.levels.specs.Levels.{grey}
 use Rattle.levels.specs.Tables.{Changed}
+use Rattle.levels.specs.Workspace.{number-at}
 use Rattle.levels.proofs.Counts.{by-cases, below-or-not}
 use Rattle.levels.proofs.Tables.{stored, sum-raised, sum-le}
 use Rattle.flooding.specs.Flooding.{Sound, Closed}
@@ -46,10 +49,15 @@ module _ {grid : Grid} {picture : List ℕ} {s : Lists} {l p : ℕ} where
         (← add-one (getD (s .heads) l 0))
         (stored 256 (s .heads) l (getD (s .heads) l 0 + 1) (omega (arith, R .at .level, R .wide-heads)))
 
-    spent-more : spent s < spent (moved-on s l)
-    spent-more =
+    -- where the same pixels are met
+    spent-more :
+        (ws' opened' : List ℕ) → ((x : ℕ) → x < length picture → number-at ws' x ≡ number-at (s .words) x)
+        → spent (length picture) s < spent (length picture) (lists ws' (advanced (s .heads) l) (s .tails) opened')
+    spent-more ws' opened' same =
         omega (
           arith,
+          count-ext (length picture) (λ (x : ℕ). ltb (number-at ws' x) (length picture)) (λ (x : ℕ). ltb (number-at (s .words) x) (length picture))
+              (λ x h. ap (λ (k : ℕ). ltb k (length picture)) (same x h)),
           sum-raised
               256
               (λ (k : ℕ). getD (s .heads) k 0)
@@ -92,7 +100,7 @@ module _ {grid : Grid} {picture : List ℕ} {s : Lists} {l p : ℕ} where
           }
 
       pub goes-on : Left grid picture s (moved-on s l) l
-      goes-on = record { outcome = inl stays-ready; more = spent-more }
+      goes-on = record { outcome = inl stays-ready; more = spent-more (s .words) (s .opened) (λ x h. refl) }
 
     open-here : getD (s .opened) l 0 < length picture
     open-here = open-number (R .named) l (R .at .level) (R .at .open-here)
@@ -197,12 +205,12 @@ module _ {grid : Grid} {picture : List ℕ} {s : Lists} {l p : ℕ} where
               record {
                 outcome =
                     by-cases C (λ B. inl (goes-below same-length (B .0) (B .1))) (λ D. inr (D .0, ends-here (D .1) (D .2)));
-                more = spent-more;
+                more = spent-more ws″ opened″ (by-cases C (λ B. B .1 .shutting .num) (λ D. D .2 .shutting .num));
               }
 
 -- one turn: the flood moves up, or leaves its pixel
 module _ {grid : Grid} {picture : List ℕ} {s s' : Lists} {p q : ℕ} (U : VisitedAround grid picture s s' p q) where
-  pub moves : (q ≡ p → ⊥) → spent s < spent s'
+  pub moves : (q ≡ p → ⊥) → spent (length picture) s < spent (length picture) s'
   moves ne = rw (U .same-heads) (omega (arith, U .raised ne))
 
   pub leavable : {l : ℕ} → Standing grid picture s l p → q ≡ p → Leavable grid picture s' l p
@@ -210,25 +218,24 @@ module _ {grid : Grid} {picture : List ℕ} {s s' : Lists} {p q : ℕ} (U : Visi
       let T : Standing grid picture s' (grey picture p) p = rw e at (U .stands) in
       record { stands = rw (standing-grey S) at T; met = U .met e }
 
-  pub leaves : {s″ : Lists} {r : ℕ} → Left grid picture s' s″ r → spent s < spent s″
-  leaves L = let both : spent s ≤ spent s' = rw (U .same-heads) (omega (arith, U .more)) in omega (arith, L .more)
+  pub leaves : {s″ : Lists} {r : ℕ} → Left grid picture s' s″ r → spent (length picture) s < spent (length picture) s″
+  leaves L = let both : spent (length picture) s ≤ spent (length picture) s' = rw (U .same-heads) (omega (arith, U .more)) in omega (arith, L .more)
 
--- the heads and the tails stay within part 3, so there is an end to the turns
+-- there are n pixels to meet, and the heads stay within part 3, so there is an end to the turns
 module _ {grid : Grid} {picture : List ℕ} {s : Lists} {l p : ℕ} where
-  spent-le : Standing grid picture s l p → spent s ≤ 512 * length picture
+  spent-le : Standing grid picture s l p → spent (length picture) s ≤ 257 * length picture
   spent-le S =
       let n = length picture in
       let R = S .ready in
-      let t : (k : ℕ) → k < 256 → getD (s .tails) k 0 ≤ length picture = tail-le (R .sound) in
       omega (
         arith,
-        sum-le 256 n (λ (k : ℕ). getD (s .tails) k 0) t,
-        sum-le 256 n (λ (k : ℕ). getD (s .heads) k 0) (λ k hk. omega (arith, R .sound .high k hk, t k hk)),
+        count-le n (λ (q : ℕ). ltb (number-at (s .words) q) n),
+        sum-le 256 n (λ (k : ℕ). getD (s .heads) k 0) (λ k hk. omega (arith, R .sound .high k hk, tail-le (R .sound) k hk)),
       )
 
   pub spent-falls :
-      (s' : Lists) → Standing grid picture s l p → spent s < spent s'
-      → 512 * length picture + 1 - spent s' < 512 * length picture + 1 - spent s
+      (s' : Lists) → Standing grid picture s l p → spent (length picture) s < spent (length picture) s'
+      → 257 * length picture + 1 - spent (length picture) s' < 257 * length picture + 1 - spent (length picture) s
   spent-falls s' S more = omega (arith, spent-le S)
 
   pub unfinished : Standing grid picture s l p ⊎ Ended grid picture s l → (l ≡ 256 → ⊥) → Standing grid picture s l p

@@ -12,11 +12,11 @@ use Rattle.levels.specs.Levels.{grey, entry-sum}
 use Rattle.levels.specs.Workspace.{Sized, number-at, closed-of, up-of}
 use Rattle.flooding.specs.Numbers.{Numbered}
 use Rattle.queues.specs.Queues.{Lists, taken-of}
-use Rattle.visits.specs.Visits.{Ready, Standing}
+use Rattle.visits.specs.Visits.{met-count, Ready, Standing}
 
--- how far the heads and the tails have come
-abbrev pub spent : Lists → ℕ
-spent s = entry-sum (s .heads) 256 + entry-sum (s .tails) 256
+-- how many of the n pixels are met, and how far the heads have come
+abbrev pub spent : ℕ → Lists → ℕ
+spent n s = met-count n s + entry-sum (s .heads) 256
 
 -- the words of a workspace that the flood of a picture leaves, which has m nodes
 abbrev pub NumberedBy : Grid → List ℕ → List ℕ → ℕ → Type 0
@@ -36,7 +36,7 @@ Ended grid picture s r = (r ≡ 256) × NumberedBy grid picture (s .words) (take
 -- that pixel is left: the flood goes on at level r, or has ended
 pub record Left (grid : Grid) (picture : List ℕ) (s s' : Lists) (r : ℕ) : Type 0 where
   pub outcome : Ready grid picture s' r ⊎ Ended grid picture s' r
-  pub more : spent s < spent s'
+  pub more : spent (length picture) s < spent (length picture) s'
 
 -- a picture of the grid's pixels, with a pixel at least, and a workspace for it
 pub record Floodable (grid : Grid) (picture ws : List ℕ) : Type 0 where

@@ -1,5 +1,5 @@
--- `run` meets its contract. The invariant: the flood stands at the pixel, at the head of the level, or has ended. The measure is what the
--- heads and the tails have left to go, and every turn takes some of it.
+-- `run` meets its contract. The invariant: the flood stands at the pixel, at the head of the level, or has ended. The measure is how many
+-- pixels are left to meet and what the heads have left to go, and every turn takes some of it.
 use Prim.Native.Nat.{_+_, _*_, _-_}
 use mathlib.Core.Logic.{_⊎_, inl, inr}
 use mathlib.Core.Path.{_≡_, refl, _∙_}
@@ -20,7 +20,7 @@ Inv-loop picture grid first start ws₀ heads₀ tails₀ opened₀ n p₀ level
 
 abbrev μ-loop : tie.MeasureT-loop
 μ-loop picture grid first start ws₀ heads₀ tails₀ opened₀ n p₀ level₀ ws heads tails opened p level =
-    512 * length picture + 1 - spent (lists ws heads tails opened)
+    257 * length picture + 1 - spent (length picture) (lists ws heads tails opened)
 
 abbrev start : tie.At-loop Inv-loop μ-loop → tie.Start Inv-loop μ-loop
 start c = c .before .before .before
