@@ -4,9 +4,7 @@ use Prim.Native.Nat.{ℕ, _+_, _%_}
 use mathlib.Core.Path.{_≡_, refl, sym, ap, _∙_}
 use native.Mathlib.Nat.{mod-lt}
 use native.Mathlib.Omega.{arith}
-use lib.Dec.{eqb}
 use borrow.Author.Needs.{needs}
-use borrow.Author.Tests.{eqb-true}
 use Rattle.queues.specs.Queues.{Lists, lists}
 use Rattle.visits.specs.Visits.{held, right-of, Visiting, Visited}
 use Rattle.visits.proofs.Visits.{standing-in, on-side, climbs, all-met, replaceable, follows}
