@@ -110,8 +110,7 @@ module _ {n nodes : ℕ} {steps ws ws' : List ℕ} {h : ℕ} (given : Given n no
         (kept-closed (prog .kept) i inside, kept-up (prog .kept) node)
         (omega (arith, given .climb .ups node node-within, given .climb .few));
     byte =
-        rw
-        (
+        rw (
           kept-closed (prog .kept) i inside,
           kept-drop (prog .kept) i inside,
           kept-up (prog .kept) node,

@@ -61,13 +61,7 @@ fn visit(steps: &[u32], table: &[usize; 256], n: usize, i: usize, ws: &mut [u32]
 }
 
 // Every node, the last closed first.
-fn settle_nodes(
-    steps: &[u32],
-    table: &[usize; 256],
-    n: usize,
-    nodes: usize,
-    ws: &mut [u32],
-)
+fn settle_nodes(steps: &[u32], table: &[usize; 256], n: usize, nodes: usize, ws: &mut [u32])
     requires { ⌜ Given n nodes (now steps) (now ws) ⌝ }
     requires { ⌜ now table ≡ small-places (now steps) ⌝ }
     ensures { λ _. ⌜ Settled-from n nodes (now (steps .entry)) (now (ws .entry)) (now (ws .exit)) 0 ⌝ }
