@@ -69,13 +69,16 @@ static inline int open_below(const flood_t *f, int level) {
     return word == 0 ? 256 : 64 * i + 63 - __builtin_clzll(word);
 }
 
-/* Closes the node of the level: its parent is the open node of the next darker open level, which is the answer; 256 at the end. */
+/*
+ * Closes the node of the level: its parent is the open node of the next darker open level, which is the answer; 256 at the end. The order of
+ * closing gets its number and how far its level lies above its parent's.
+ */
 static int close_node(flood_t *f, int level) {
     int below = open_below(f, level);
     uint32_t k = f->opened[level];
     f->opened[level] = f->n;
     f->open[level / 64] -= (uint64_t)1 << level % 64;
-    f->closing[f->closed++] = k;
+    f->closing[f->closed++] = k << 8 | (below == 256 ? 0 : level - below);
     f->nodes[3 * k + 1] = below == 256 ? k : f->opened[below];
     return below;
 }

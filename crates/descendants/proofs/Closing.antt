@@ -52,10 +52,10 @@ module _ {m : ℕ} {up closed : ℕ → ℕ} (order : Closing-order m up closed)
       (order .later i c)
 
 -- the roots of the nodes that are closed at the places below i
-abbrev pub shut : {n : ℕ} {adj : Adjacency} {g num up closed : ℕ → ℕ} {m : ℕ} → Numbered n adj g num up closed m → ℕ → Positions
+abbrev pub shut : {n : ℕ} {adj : Adjacency} {g num up closed drop : ℕ → ℕ} {m : ℕ} → Numbered n adj g num up closed drop m → ℕ → Positions
 shut {num = num} {closed = closed} {m = m} N i c = eqb (N .first (num c)) c && ltb (place-of m closed (num c)) i
 
-module _ {n : ℕ} {adj : Adjacency} {g num up closed : ℕ → ℕ} {m : ℕ} (N : Numbered n adj g num up closed m) where
+module _ {n : ℕ} {adj : Adjacency} {g num up closed drop : ℕ → ℕ} {m : ℕ} (N : Numbered n adj g num up closed drop m) where
   abbrev par : ℕ → ℕ
   par = parent-by (N .first) num up
 

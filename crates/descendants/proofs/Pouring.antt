@@ -1,6 +1,6 @@
 -- The pass that adds each node to its parent, in the order of closing: what holds when the places below i have been taken, one more of
 -- them, and the end. Assumes that neighbours are mutual.
-use Prim.Native.Nat.{ℕ, _+_, _*_, _≤_, _<_}
+use Prim.Native.Nat.{ℕ, _+_, _*_, _/_, _≤_, _<_}
 use mathlib.Core.Bool.{true, false, cond}
 use mathlib.Core.List.{List}
 use mathlib.Core.Logic.{⊎-elim}
@@ -37,11 +37,12 @@ turned a n v g par done r =
     cond (done r) (measured a (gathered a n v (branch g par r))) (gathered a n v (poured g par done r))
 
 -- the word of the number k when the places below i have been taken, where a pixel's accumulator is v
-abbrev pub word : ℕ → {n : ℕ} {adj : Adjacency} {g num up closed : ℕ → ℕ} {m : ℕ} → Numbered n adj g num up closed m → (ℕ → ℕ) → ℕ → ℕ → ℕ
+abbrev pub word : ℕ → {n : ℕ} {adj : Adjacency} {g num up closed drop : ℕ → ℕ} {m : ℕ} → Numbered n adj g num up closed drop m → (ℕ → ℕ) → ℕ → ℕ → ℕ
 word a {n = n} {g = g} {num = num} {up = up} N v i k =
     turned a n v g (parent-by (N .first) num up) (shut N i) (N .first k)
 
-module _ (a : ℕ) {n : ℕ} {adj : Adjacency} (symm : Symmetric adj) {g num up closed : ℕ → ℕ} {m : ℕ} (N : Numbered n adj g num up closed m) (v : ℕ → ℕ) where
+module _ (a : ℕ) {n : ℕ} {adj : Adjacency} (symm : Symmetric adj) {g num up closed drop : ℕ → ℕ} {m : ℕ}
+    (N : Numbered n adj g num up closed drop m) (v : ℕ → ℕ) where
   abbrev par : ℕ → ℕ
   par = parent-by (N .first) num up
 
@@ -328,7 +329,7 @@ module _ {a : ℕ} {picture ws₀ : List ℕ} {m : ℕ} (start : Pourable a pict
   p-low = omega (arith, p-within, few)
 
   number-is : closed-of n ws i ≡ k
-  number-is = W .before (n + i) (omega (arith, few))
+  number-is = ap (λ (v : ℕ). v / 256) (W .before (n + i) (omega (arith, few)))
 
   parent-is : up-of n ws k ≡ p
   parent-is = W .ups k k-within

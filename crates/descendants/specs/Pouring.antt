@@ -8,7 +8,7 @@ use lib.ListN.{getD, length, set}
 use Rattle.sets.specs.Sets.{Positions}
 use Rattle.connected.specs.Component.{Adjacency, Symmetric}
 use Rattle.levels.specs.Levels.{grey}
-use Rattle.levels.specs.Workspace.{Sized, number-at, closed-of, lowest-of, up-of, held-of}
+use Rattle.levels.specs.Workspace.{Sized, number-at, closed-of, drop-of, lowest-of, up-of, held-of}
 use Rattle.flooding.specs.Numbers.{Numbered, parent-by}
 use Rattle.accumulators.specs.Accumulators.{combined, measured, gathered, Small, bound, In-order}
 use Rattle.branches.specs.Branches.{branch}
@@ -45,7 +45,8 @@ pub record Pourable (a : ℕ) (picture ws : List ℕ) (m : ℕ) : Type 0 where
   pub adj : Adjacency
   pub symm : Symmetric adj
   pub numbered :
-      Numbered (length picture) adj (grey picture) (number-at ws) (up-of (length picture) ws) (closed-of (length picture) ws) m
+      let n = length picture in
+      Numbered n adj (grey picture) (number-at ws) (up-of n ws) (closed-of n ws) (drop-of n ws) m
   pub value : ℕ → ℕ
   pub small : (q : ℕ) → q < length picture → value q ≤ bound a 1
   pub ends :

@@ -25,7 +25,7 @@ pub fn descendants(picture: &[u8], attribute: u32, nodes: usize, ws: &mut [u32])
     let n = picture.len();
     let mut i = 0;
     while i < nodes {
-        let k = ws[n + i] as usize;
+        let k = (ws[n + i] / 256) as usize;
         let p = ws[3 * n + 3 * k + 1] as usize;
         pour(attribute, k, p, &mut ws[3 * n..6 * n]);
         i += 1;

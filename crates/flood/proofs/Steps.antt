@@ -125,7 +125,7 @@ module _ {grid : Grid} {picture : List ℕ} {s : Lists} {l p : ℕ} where
 
       goes-below :
           {ws″ opened″ : List ℕ} {m : ℕ} → length ws″ ≡ length (s .words) → NextOpen (length picture) (s .opened) l m
-          → Shut (length picture) (s .words) (s .opened) ws″ opened″ l (getD (s .opened) m 0)
+          → Shut (length picture) (s .words) (s .opened) ws″ opened″ l (getD (s .opened) m 0) (l - m)
           → Ready grid picture (lists ws″ (advanced (s .heads) l) (s .tails) opened″) m
       goes-below {ws″} {opened″} {m} same-length N S =
           let n = length picture in
@@ -160,7 +160,8 @@ module _ {grid : Grid} {picture : List ℕ} {s : Lists} {l p : ℕ} where
             par = changed (R .par) (R .root l) (R .root m);
             root = changed (R .root) l n;
             named =
-                named-closed (R .named) (S .shutting) (R .at .level) refl open-here (root-greys R) (N .lower) refl open-m;
+                named-closed (R .named) (S .shutting) (R .at .level) refl open-here (root-greys R) (N .lower) refl open-m
+                (omega (arith, N .lower));
             sound = closed-sound sound' bytes emptied (N .lower) root-m next step;
             at = closed-at sound' bytes emptied (N .lower) root-m next step;
           }
@@ -179,7 +180,7 @@ module _ {grid : Grid} {picture : List ℕ} {s : Lists} {l p : ℕ} where
 
         ends-here :
             {ws″ opened″ : List ℕ}
-            → Shut (length picture) (s .words) (s .opened) ws″ opened″ l (getD (s .opened) l 0)
+            → Shut (length picture) (s .words) (s .opened) ws″ opened″ l (getD (s .opened) l 0) 0
             → NumberedBy grid picture ws″ (taken-of opened″)
         ends-here S =
             named-ended
@@ -190,6 +191,7 @@ module _ {grid : Grid} {picture : List ℕ} {s : Lists} {l p : ℕ} where
             open-here
             (root-greys R)
             only
+            refl
             refl
             (sound' .open-root l (R .at .level) (R .at .open-here) .own)
             (ends sound' bytes emptied none-below (λ q a b. adjacent-before grid (R .wide) q a))

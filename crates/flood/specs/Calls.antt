@@ -9,7 +9,7 @@ use Rattle.grid.specs.Pixels.{pixels}
 use Rattle.grid.specs.Neighbours.{adjacent}
 use Rattle.grid.specs.declared.Grid.{Grid}
 use Rattle.levels.specs.Levels.{grey, entry-sum}
-use Rattle.levels.specs.Workspace.{Sized, number-at, closed-of, up-of}
+use Rattle.levels.specs.Workspace.{Sized, number-at, closed-of, drop-of, up-of}
 use Rattle.flooding.specs.Numbers.{Numbered}
 use Rattle.queues.specs.Queues.{Lists, taken-of}
 use Rattle.visits.specs.Visits.{met-count, Ready, Standing}
@@ -22,7 +22,7 @@ spent n s = met-count n s + entry-sum (s .heads) 256
 abbrev pub NumberedBy : Grid → List ℕ → List ℕ → ℕ → Type 0
 NumberedBy grid picture ws m =
     let n = length picture in
-    Numbered n (adjacent grid) (grey picture) (number-at ws) (up-of n ws) (closed-of n ws) m
+    Numbered n (adjacent grid) (grey picture) (number-at ws) (up-of n ws) (closed-of n ws) (drop-of n ws) m
 
 -- the flood stands at the pixel p, at the head of level l, and all its neighbours are met
 pub record Leavable (grid : Grid) (picture : List ℕ) (s : Lists) (l p : ℕ) : Type 0 where

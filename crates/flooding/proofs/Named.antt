@@ -39,6 +39,7 @@ named-none {n} g first {w = w} unmet no-open none-taken none-done pars roots =
       not-open = λ i h o. omega arith;
       once = λ i j h h' e. omega arith;
       later = λ i h. absurd (omega arith);
+      drops = λ i h. absurd (omega arith);
     }
 
 -- a table after a store, and what a test counts in it where the entry passed and passes no more

@@ -215,6 +215,9 @@ module _ {n : ℕ} {g first par root : ℕ → ℕ} {w w' : Numbers} (N : Named 
         same-closed : (i : ℕ) → i < w .done → w' .closed i ≡ w .closed i
         same-closed i h = P .closed i (omega (arith, N .balance, taken-le N))
 
+        same-drop : (i : ℕ) → i < w .done → w' .drop i ≡ w .drop i
+        same-drop i h = P .drop i (omega (arith, N .balance, taken-le N))
+
         same-up : (j : ℕ) → j < w .taken → w' .up j ≡ w .up j
         same-up j h = P .up j (omega (arith, taken-le N))
 
@@ -240,15 +243,17 @@ module _ {n : ℕ} {g first par root : ℕ → ℕ} {w w' : Numbers} (N : Named 
             })
             (λ z. absurd (shut (rw (z .0, first-here, grey-r) (P .open-at .here))))
 
+        in-up : (i : ℕ) → i < w .done → w .up (w .closed i) < w .taken
+        in-up i h = N .closed-node (w .closed i) (N .closed-within i h) (N .not-open i h) .up-within
+
         new-later :
             (i : ℕ) → i < w .done
             → Is-open g first' w' (w .up (w .closed i))
             ⊎ ((j : ℕ) × (i < j) × (j < w .done) × (w' .closed j ≡ w .up (w .closed i)))
         new-later i h =
-            let in-up = N .closed-node (w .closed i) (N .closed-within i h) (N .not-open i h) .up-within in
             by-cases
             (N .later i h)
-            (λ o. inl (is-open-kept (w .up (w .closed i)) in-up o))
+            (λ o. inl (is-open-kept (w .up (w .closed i)) (in-up i h) o))
             (λ z. inr (z .0, z .1, z .2, same-closed (z .0) (z .2) ∙ z .3))
 
         renamed : Renamed n l q g par root w'
@@ -300,6 +305,17 @@ module _ {n : ℕ} {g first par root : ℕ → ℕ} {w w' : Numbers} (N : Named 
                     later = λ i h.
                         let b : i < w .done = rw (P .done) at h in
                         rw (same-closed i b, same-up (w .closed i) (N .closed-within i b), P .done) (new-later i b);
+                    drops = λ i h.
+                        let b : i < w .done = rw (P .done) at h in
+                        let inside = N .closed-within i b in
+                        rw (
+                          same-drop i b,
+                          same-closed i b,
+                          same-up (w .closed i) inside,
+                          kept (w .closed i) inside,
+                          kept (w .up (w .closed i)) (in-up i b),
+                        )
+                        (N .drops i b);
                   };
             }
 

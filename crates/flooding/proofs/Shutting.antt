@@ -12,7 +12,7 @@ use Rattle.connected.specs.Component.{Adjacency}
 use Rattle.levels.specs.Tables.{Changed}
 use Rattle.levels.proofs.Counts.{by-cases, equal-or-not, below-or-not}
 use Rattle.flooding.specs.Flooding.{Flooded}
-use Rattle.flooding.specs.Numbers.{changed, Numbers, Is-open, Taken, Open-node, Closed-node, Named, Shutting, parent-by, Closing-order, Numbered}
+use Rattle.flooding.specs.Numbers.{changed, Numbers, Is-open, Taken, Open-node, Closed-node, Drops, Named, Shutting, parent-by, Closing-order, Numbered}
 use Rattle.flooding.proofs.Named.{changed-once, count-stored, taken-le, close-fits, met-number, open-root}
 
 -- parents that are the same at every position
@@ -32,7 +32,7 @@ flooded-same {n} {adj} {g} {par} {par'} same F =
     }
 
 -- the open node of level l, of number k, is closed, whatever its parent
-module _ {n : ℕ} {g first par root : ℕ → ℕ} {w w' : Numbers} (N : Named n g first par root w) {l k p : ℕ} (C : Shutting n l k p w w')
+module _ {n : ℕ} {g first par root : ℕ → ℕ} {w w' : Numbers} (N : Named n g first par root w) {l k p d : ℕ} (C : Shutting n l k p d w w')
     (lo : l < 256) (k-is : k ≡ w .open-at l) (open-l : w .open-at l < n)
     (greys : (j : ℕ) → j < 256 → root j < n → g (root j) ≡ j)
   where
@@ -56,6 +56,9 @@ module _ {n : ℕ} {g first par root : ℕ → ℕ} {w w' : Numbers} (N : Named 
 
     closed-stays : (i : ℕ) → i < w .done → w' .closed i ≡ w .closed i
     closed-stays i h = C .closed .there i (omega (arith, close-fits N lo open-l)) (λ e. omega arith)
+
+    drop-stays : (i : ℕ) → i < w .done → w' .drop i ≡ w .drop i
+    drop-stays i h = C .drop .there i (omega (arith, close-fits N lo open-l)) (λ e. omega arith)
 
     up-stays : (j : ℕ) → j < w .taken → (j ≡ k → ⊥) → w' .up j ≡ w .up j
     up-stays j h ne = C .up .there j (omega (arith, taken-le N)) ne
@@ -115,8 +118,18 @@ module _ {n : ℕ} {g first par root : ℕ → ℕ} {w w' : Numbers} (N : Named 
         (closed-stays i b, up-stays (w .closed i) (N .closed-within i b) (closed-apart i b))
         (N .closed-node (w .closed i) (N .closed-within i b) (N .not-open i b) .up-within)
 
+    shut-drops : d + g (first p) ≡ g (first k) → Drops (w' .done) (λ j. g (first j)) (w' .up) (w' .closed) (w' .drop)
+    shut-drops here i h =
+        by-cases
+        (before-or-last i h)
+        (λ b.
+        rw
+        (drop-stays i b, closed-stays i b, up-stays (w .closed i) (N .closed-within i b) (closed-apart i b))
+        (N .drops i b))
+        (λ e. rw (e, C .drop .here, C .closed .here, C .up .here) here)
+
     -- below the open node of level m
-    module _ {m : ℕ} (lower : m < l) (p-is : p ≡ w .open-at m) (open-m : w .open-at m < n) where
+    module _ {m : ℕ} (lower : m < l) (p-is : p ≡ w .open-at m) (open-m : w .open-at m < n) (down : d + m ≡ l) where
       in-m : m < 256
       in-m = omega arith
 
@@ -278,10 +291,11 @@ module _ {n : ℕ} {g first par root : ℕ → ℕ} {w w' : Numbers} (N : Named 
             not-open = shut-not-open;
             once = shut-once;
             later = shut-parents;
+            drops = shut-drops (rw (grey-p, grey-k) down);
           }
 
     -- the last open node, its own parent
-    module _ {adj : Adjacency} (only : (j : ℕ) → j < 256 → w .open-at j < n → j ≡ l) (itself : p ≡ k) (own : par (root l) ≡ root l)
+    module _ {adj : Adjacency} (only : (j : ℕ) → j < 256 → w .open-at j < n → j ≡ l) (itself : p ≡ k) (flat : d ≡ 0) (own : par (root l) ≡ root l)
         (F : Flooded n adj g par)
       where
         only-open : (j : ℕ) → j < w .taken → Is-open g first w j → j ≡ k
@@ -337,7 +351,7 @@ module _ {n : ℕ} {g first par root : ℕ → ℕ} {w w' : Numbers} (N : Named 
             (λ e. rw (eq-eqb (first (w .num q)) q e) (first-parent (w .num q) (numbered q h) ∙ ap par e))
             (λ ne. rw (ne-eqb (first (w .num q)) q ne) (sym (N .others q h m ne))))
 
-        pub named-ended : Numbered n adj g (w' .num) (w' .up) (w' .closed) (w' .taken)
+        pub named-ended : Numbered n adj g (w' .num) (w' .up) (w' .closed) (w' .drop) (w' .taken)
         named-ended =
             record {
               few = omega (arith, C .taken, taken-le N);
@@ -365,6 +379,7 @@ module _ {n : ℕ} {g first par root : ℕ → ℕ} {w w' : Numbers} (N : Named 
                   inr (rw (up-stays j b ne) (closed-but j b ne .dark)));
               flooded = flooded-same parents F;
               order = rw all-done at order;
+              drops = rw all-done at (shut-drops (rw (flat, itself) (omega arith)));
             }
           where
             order : Closing-order (w' .done) (w' .up) (w' .closed)

@@ -14,15 +14,21 @@ use Rattle.flooding.specs.Flooding.{Flooded}
 unfoldable pub changed : (ℕ → ℕ) → ℕ → ℕ → ℕ → ℕ
 changed f a v x = cond (eqb x a) v (f x)
 
--- the number of a pixel's node, n if it is not met; the number of the parent of a closed node; the numbers in the order of closing; the
--- number of the open node of a level, n if there is none; how many numbers are taken; how many nodes are closed
+-- the number of a pixel's node, n if it is not met; the number of the parent of a closed node; the numbers in the order of closing; how
+-- far the level of the node closed at a place lies above its parent's; the number of the open node of a level, n if there is none; how
+-- many numbers are taken; how many nodes are closed
 pub record Numbers : Type 0 where
   pub num : ℕ → ℕ
   pub up : ℕ → ℕ
   pub closed : ℕ → ℕ
+  pub drop : ℕ → ℕ
   pub open-at : ℕ → ℕ
   pub taken : ℕ
   pub done : ℕ
+
+-- at the first m places of the order of closing, drop is how far the level of the node closed there lies above its parent's
+abbrev pub Drops : ℕ → (ℕ → ℕ) → (ℕ → ℕ) → (ℕ → ℕ) → (ℕ → ℕ) → Type 0
+Drops m level up closed drop = (i : ℕ) → i < m → drop i + level (up (closed i)) ≡ level (closed i)
 
 -- the node of number k, whose first pixel is first k, is open
 abbrev pub Is-open : (ℕ → ℕ) → (ℕ → ℕ) → Numbers → ℕ → Type 0
@@ -73,6 +79,7 @@ pub record Named (n : ℕ) (g first par root : ℕ → ℕ) (w : Numbers) : Type
   pub later :
       (i : ℕ) → i < w .done
       → Is-open g first w (w .up (w .closed i)) ⊎ ((j : ℕ) × (i < j) × (j < w .done) × (w .closed j ≡ w .up (w .closed i)))
+  pub drops : Drops (w .done) (λ (k : ℕ). g (first k)) (w .up) (w .closed) (w .drop)
 
 -- q takes the number k: that of the open node of its level l, or the next
 pub record Numbering (n l q k : ℕ) (w w' : Numbers) : Type 0 where
@@ -83,12 +90,14 @@ pub record Numbering (n l q k : ℕ) (w w' : Numbers) : Type 0 where
   pub open-at : Changed 256 (w .open-at) (w' .open-at) l k
   pub up : (j : ℕ) → j < n → w' .up j ≡ w .up j
   pub closed : (i : ℕ) → i < n → w' .closed i ≡ w .closed i
+  pub drop : (i : ℕ) → i < n → w' .drop i ≡ w .drop i
   pub done : w' .done ≡ w .done
 
--- the open node of level l, of number k, is closed, and its parent's number is p
-pub record Shutting (n l k p : ℕ) (w w' : Numbers) : Type 0 where
+-- the open node of level l, of number k, is closed, its parent's number is p, and its drop d
+pub record Shutting (n l k p d : ℕ) (w w' : Numbers) : Type 0 where
   pub up : Changed n (w .up) (w' .up) k p
   pub closed : Changed n (w .closed) (w' .closed) (w .done) k
+  pub drop : Changed n (w .drop) (w' .drop) (w .done) d
   pub open-at : Changed 256 (w .open-at) (w' .open-at) l n
   pub num : (q : ℕ) → q < n → w' .num q ≡ w .num q
   pub taken : w' .taken ≡ w .taken
@@ -107,7 +116,7 @@ pub record Closing-order (m : ℕ) (up closed : ℕ → ℕ) : Type 0 where
       (i : ℕ) → i < m → (up (closed i) ≡ closed i) ⊎ ((j : ℕ) × (i < j) × (j < m) × (closed j ≡ up (closed i)))
 
 -- what the flood leaves: m nodes have numbers, and the parents that the numbers stand for are those of a flood
-pub record Numbered (n : ℕ) (adj : Adjacency) (g num up closed : ℕ → ℕ) (m : ℕ) : Type 0 where
+pub record Numbered (n : ℕ) (adj : Adjacency) (g num up closed drop : ℕ → ℕ) (m : ℕ) : Type 0 where
   pub few : m ≤ n
   pub within : (q : ℕ) → q < n → num q < m
   pub first : ℕ → ℕ
@@ -118,3 +127,4 @@ pub record Numbered (n : ℕ) (adj : Adjacency) (g num up closed : ℕ → ℕ) 
   pub dim : (k : ℕ) → k < m → (up k ≡ k) ⊎ (g (first (up k)) < g (first k))
   pub flooded : Flooded n adj g (parent-by first num up)
   pub order : Closing-order m up closed
+  pub drops : Drops m (λ (k : ℕ). g (first k)) up closed drop

@@ -1,5 +1,5 @@
 -- The workspace: the words that a call is lent for its work, in parts of n words each, for a picture of n pixels.
-use Prim.Native.Nat.{ℕ, _+_, _*_, _≤_}
+use Prim.Native.Nat.{ℕ, _+_, _*_, _/_, _%_, _≤_}
 use mathlib.Core.List.{List}
 use mathlib.Core.Path.{_≡_}
 use lib.ListN.{getD, length}
@@ -14,12 +14,17 @@ pub record Sized (n : ℕ) (ws : List ℕ) : Type 0 where
 abbrev pub order-of : ℕ → List ℕ → ℕ → ℕ
 order-of n ws i = getD ws (2 * n + i) 0
 
--- while the tree is built, part 1 holds the number of each pixel's node, and part 2 the numbers in the order of closing
+-- while the tree is built, part 1 holds the number of each pixel's node, and part 2 a word for each node in the order of closing: its
+-- number × 256 + its drop
 abbrev pub number-at : List ℕ → ℕ → ℕ
 number-at ws q = getD ws q 0
 
 abbrev pub closed-of : ℕ → List ℕ → ℕ → ℕ
-closed-of n ws i = getD ws (n + i) 0
+closed-of n ws i = getD ws (n + i) 0 / 256
+
+-- the drop of the node closed at place i: how far its level lies above its parent's, 0 for the root
+abbrev pub drop-of : ℕ → List ℕ → ℕ → ℕ
+drop-of n ws i = getD ws (n + i) 0 % 256
 
 -- the words of a node stand together in parts 4 to 6, three at 3n + 3 × number: its lowest own pixel, its parent's number, its accumulator
 abbrev pub lowest-of : ℕ → List ℕ → ℕ → ℕ

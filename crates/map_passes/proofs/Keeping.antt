@@ -1,18 +1,18 @@
 -- The words of the nodes are as they were where only the third part is written.
-use Prim.Native.Nat.{ℕ, _+_, _*_, _<_}
+use Prim.Native.Nat.{ℕ, _+_, _*_, _/_, _%_, _<_}
 use mathlib.Core.List.{List}
-use mathlib.Core.Path.{_≡_}
+use mathlib.Core.Path.{_≡_, ap}
 use native.Mathlib.Omega.{arith}
 use lib.ListN.{length}
 use Rattle.grid.specs.declared.Grid.{Grid}
-use Rattle.levels.specs.Workspace.{number-at, closed-of, lowest-of, up-of, held-of}
+use Rattle.levels.specs.Workspace.{number-at, closed-of, drop-of, lowest-of, up-of, held-of}
 use Rattle.numbers.specs.Nodes.{NodesOf}
 use Rattle.numbers.proofs.Same.{nodes-same}
 use Rattle.map_passes.specs.Passes.{Kept}
 
 -- what is read of the words that are kept
 module _ {n : ℕ} {ws ws' : List ℕ} (kept : Kept n ws ws') where
-  pub kept-lowest : (k : ℕ) → lowest-of n ws' k ≡ lowest-of n ws k
+  kept-lowest : (k : ℕ) → lowest-of n ws' k ≡ lowest-of n ws k
   kept-lowest k = kept .back (3 * n + 3 * k) (omega arith)
 
   pub kept-up : (k : ℕ) → up-of n ws' k ≡ up-of n ws k
@@ -22,7 +22,10 @@ module _ {n : ℕ} {ws ws' : List ℕ} (kept : Kept n ws ws') where
   kept-held k = kept .back (3 * n + 3 * k + 2) (omega arith)
 
   pub kept-closed : (i : ℕ) → i < n → closed-of n ws' i ≡ closed-of n ws i
-  kept-closed i b = kept .front (n + i) (omega arith)
+  kept-closed i b = ap (λ (v : ℕ). v / 256) (kept .front (n + i) (omega arith))
+
+  pub kept-drop : (i : ℕ) → i < n → drop-of n ws' i ≡ drop-of n ws i
+  kept-drop i b = ap (λ (v : ℕ). v % 256) (kept .front (n + i) (omega arith))
 
   pub kept-number : (q : ℕ) → q < n → number-at ws' q ≡ number-at ws q
   kept-number q b = kept .front q (omega arith)
@@ -37,4 +40,5 @@ nodes-kept grid a picture kept N =
     (λ k b. kept-up kept k)
     (λ k b. kept-held kept k)
     (λ i b. kept-closed kept i (omega (arith, N .few)))
+    (λ i b. kept-drop kept i (omega (arith, N .few)))
     N

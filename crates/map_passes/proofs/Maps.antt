@@ -1,5 +1,6 @@
 -- Both passes together: every pixel finds the pair of its node, and what they leave is what the definition says of the grid's pictures.
 use Prim.Native.Nat.{ℕ, _%_, _≤_, _<_}
+use mathlib.Core.Bool.{true}
 use mathlib.Core.List.{List}
 use mathlib.Core.Path.{_≡_, subst, _∙_}
 use native.Mathlib.Omega.{arith}
@@ -7,7 +8,7 @@ use lib.ListN.{length, length-map}
 use Rattle.sets.specs.Sets.{Positions, table}
 use Rattle.sets.proofs.Laws.{table-ext}
 use Rattle.opening.specs.Opening.{least-grey, Increasing, at-least}
-use Rattle.opening.specs.Residue.{threshold-tests}
+use Rattle.opening.specs.Residue.{rising, threshold-tests}
 use Rattle.opening.proofs.Residue.{threshold-tests-narrow}
 use Rattle.grid.specs.Pixels.{pixels}
 use Rattle.grid.specs.Neighbours.{adjacent}
@@ -17,28 +18,28 @@ use Rattle.grid.proofs.Attributes.{adjacent-symmetric, attribute-increasing}
 use Rattle.grid.proofs.Whole.{grid-whole}
 use Rattle.tree.proofs.Together.{Together}
 use Rattle.calls.specs.Calls.{grey, residue-map, index-map}
-use Rattle.levels.specs.Workspace.{lowest-of, up-of}
+use Rattle.levels.specs.Workspace.{up-of}
 use Rattle.numbers.specs.Nodes.{NodesOf}
 use Rattle.map_passes.specs.Settle.{index-in}
-use Rattle.map_passes.specs.Passes.{Given, word-at, place-at, Settled, Settled-from, pair-at, Spreadable, Ready, Written}
+use Rattle.map_passes.specs.Passes.{Climbable, Given, word-at, place-at, Settled, Settled-from, pair-at, Spreadable, Ready, Written}
+use Rattle.map_passes.proofs.Climbing.{nodes-climbable}
 use Rattle.map_passes.proofs.Keeping.{kept-number}
 use Rattle.map_passes.proofs.Right.{places-right, word-right}
 
-module _ {n nodes : ℕ} {picture steps ws ws' : List ℕ} (given : Given n nodes picture steps ws)
-    (prog : Settled-from n nodes picture steps ws ws' 0) where
+module _ {n nodes : ℕ} {steps ws ws' : List ℕ} (prog : Settled-from n nodes steps ws ws' 0) where
   -- at the end every node is settled
-  settled-all : (k : ℕ) → k < nodes
-      → Settled (length steps) (place-at n steps ws) (grey picture) (lowest-of n ws) (up-of n ws) (word-at n ws') k
-  settled-all k b =
-      let (j, l, e) = given .climb .order .place k b in
+  settled-all : {level : ℕ → ℕ} → Climbable n nodes level ws → (k : ℕ) → k < nodes
+      → Settled (length steps) (place-at n steps ws) level (up-of n ws) (word-at n ws') k
+  settled-all {level} climb k b =
+      let (j, l, e) = climb .order .place k b in
       subst
-      (Settled (length steps) (place-at n steps ws) (grey picture) (lowest-of n ws) (up-of n ws) (word-at n ws'))
+      (Settled (length steps) (place-at n steps ws) level (up-of n ws) (word-at n ws'))
       e
-      (prog .done j (omega arith) l)
+      (prog .done level climb j (omega arith) l)
 
   -- the pass over the pixels finds the numbers as they were
-  passes-spreads : {residues indices : ℕ} → residues ≡ n → indices ≡ n → Spreadable n ws' residues indices
-  passes-spreads residues-size indices-size = record {
+  passes-spreads : Given n nodes steps ws → {residues indices : ℕ} → residues ≡ n → indices ≡ n → Spreadable n ws' residues indices
+  passes-spreads given residues-size indices-size = record {
     ws-size = prog .kept .words ∙ given .ws-size;
     residues-size = residues-size;
     indices-size = indices-size;
@@ -46,8 +47,8 @@ module _ {n nodes : ℕ} {picture steps ws ws' : List ℕ} (given : Given n node
   }
 
 -- on a grid the pass over the pixels leaves the maps
-module _ (grid : Grid) (a : ℕ) (wide : 1 ≤ grid .width) {nodes : ℕ} {picture steps ws ws' : List ℕ} (size : length picture ≡ pixels grid)
-    (given : Given (length picture) nodes picture steps ws) (prog : Settled-from (length picture) nodes picture steps ws ws' 0)
+module _ (grid : Grid) (a : ℕ) (picture : List ℕ) (wide : 1 ≤ grid .width) {nodes : ℕ} {steps ws ws' : List ℕ} (size : length picture ≡ pixels grid)
+    (rises : rising 0 steps ≡ true) (prog : Settled-from (length picture) nodes steps ws ws' 0)
     (N : NodesOf grid a picture ws nodes) (bytes : (q : ℕ) → grey picture q < 256) where
   maps-grid : (table (length picture) (λ (q : ℕ). pair-at (length picture) ws' q % 256) ≡ residue-map grid a steps picture)
       × (table (length picture) (λ (q : ℕ). index-in (pair-at (length picture) ws' q)) ≡ index-map grid a steps picture)
@@ -65,11 +66,11 @@ module _ (grid : Grid) (a : ℕ) (wide : 1 ≤ grid .width) {nodes : ℕ} {pictu
       whole
       (at-least attr 0)
       (threshold-tests attr steps)
-      (threshold-tests-narrow (length picture) attr rise 0 steps (given .rise))
+      (threshold-tests-narrow (length picture) attr rise 0 steps rises)
       (length-map steps (at-least attr))
-      (places-right (adjacent-symmetric grid) N whole rise steps (given .rise))
+      (places-right (adjacent-symmetric grid) N whole rise steps rises)
       bytes
-      (settled-all given prog) in
+      (settled-all prog (nodes-climbable N bytes)) in
       rw (← size) (
         table-ext (length picture) _ _ (λ q b. rw (kept-number (prog .kept) q b) (right q b .0)),
         table-ext (length picture) _ _ (λ q b. rw (kept-number (prog .kept) q b) (right q b .1)),
@@ -77,9 +78,9 @@ module _ (grid : Grid) (a : ℕ) (wide : 1 ≤ grid .width) {nodes : ℕ} {pictu
 
 -- what the pass over the pixels is given, and what both passes leave
 module _ {nodes : ℕ} {picture steps ws ws' residues indices : List ℕ} (ready : Ready picture steps nodes ws residues indices)
-    (prog : Settled-from (length picture) nodes picture steps ws ws' 0) where
+    (prog : Settled-from (length picture) nodes steps ws ws' 0) where
   pub passes-spread : Spreadable (length picture) ws' (length residues) (length indices)
-  passes-spread = passes-spreads (ready .given) prog (ready .residues-size) (ready .indices-size)
+  passes-spread = passes-spreads prog (ready .given) (ready .residues-size) (ready .indices-size)
 
   pub passes-written : {best index : List ℕ} → ((q : ℕ) → grey picture q < 256)
       → (best ≡ table (length picture) (λ (q : ℕ). pair-at (length picture) ws' q % 256))
@@ -90,6 +91,6 @@ module _ {nodes : ℕ} {picture steps ws ws' residues indices : List ℕ} (ready
         kept = prog .kept;
         maps =
             λ grid a wide size N.
-            let maps = maps-grid grid a wide size (ready .given) prog N bytes in
+            let maps = maps-grid grid a picture wide size (ready .given .rise) prog N bytes in
             (is-best ∙ maps .0, is-index ∙ maps .1);
       }

@@ -51,12 +51,12 @@ shared-is run k m place fall l never at is =
     (λ falls. rw (at falls, is falls) refl)
     (le-or-lt m place)
 
-module _ {n nodes : ℕ} {adj : Adjacency} {attr : Positions → ℕ} {g num low up held closed : ℕ → ℕ} (symm : Symmetric adj)
-    (N : Nodes n adj attr g num low up held closed nodes)
+module _ {n nodes : ℕ} {adj : Adjacency} {attr : Positions → ℕ} {g num low up held closed drop : ℕ → ℕ} (symm : Symmetric adj)
+    (N : Nodes n adj attr g num low up held closed drop nodes)
     (whole : (p q : ℕ) → p < n → q < n → Together n adj g (least-grey n g) p q) where
   -- for the tests of thresholds the place that the words give is the one at which the node falls
   pub places-right : Increasing n attr → (steps : List ℕ) → rising 0 steps ≡ true → (k : ℕ) → k < nodes
-      → place-of steps (low k) (low (up k)) (held k) ≡ fall-place n adj (threshold-tests attr steps) g (low k)
+      → place-of steps k (up k) (held k) ≡ fall-place n adj (threshold-tests attr steps) g (low k)
   unfolding place-of
   places-right rise steps rises k b =
       let q : ℕ = low k in
@@ -65,20 +65,20 @@ module _ {n nodes : ℕ} {adj : Adjacency} {attr : Positions → ℕ} {g num low
       ⊎-elim
       (λ (w : Parent n adj g q (low (up k))).
       rw
-      (ne-eqb (low (up k)) q (λ e. omega (arith, w .darker, ap g e)), N .attributes k b)
+      (ne-eqb (up k) k (λ e. omega (arith, w .darker, ap g (ap low e))), N .attributes k b)
       (sym
       (place-node n adj symm g (at-least attr 0) tests narrow whole q (low (up k)) w
       ∙ places-outlasted attr (member (node n adj g q)) steps)))
       (λ root.
       rw
-      (eq-eqb (low (up k)) q (root .1))
+      (eq-eqb (up k) k (sym (N .low-own (up k) (N .ups k b)) ∙ ap num (root .1) ∙ N .low-own k b))
       (sym
       (place-root n adj symm g (at-least attr 0) tests narrow whole q (N .low-within k b) (root .0) ∙ length-map steps (at-least attr))))
       (nodes-up symm N k b)
 
   module _ {m : ℕ} {place word : ℕ → ℕ} (wide : Keeps) (tests : List Keeps) (narrow : Narrowing n wide tests) (number : length tests ≡ m)
       (place-right : (k : ℕ) → k < nodes → place k ≡ fall-place n adj tests g (low k)) (bytes : (q : ℕ) → g q < 256)
-      (settled : (k : ℕ) → k < nodes → Settled m place g low up word k) where
+      (settled : (k : ℕ) → k < nodes → Settled m place (λ (j : ℕ). g (low j)) up word k) where
     right-never : (k : ℕ) → k < nodes → length tests ≤ fall-place n adj tests g (low k) → Right n adj tests g (word k) (low k)
     right-never k b l =
         let s = settled k b in

@@ -4,7 +4,6 @@
 use Prim.Native.Nat.{ℕ, _+_, _-_, _%_, _≤_, _<_}
 use mathlib.Core.Logic.{⊎-elim}
 use mathlib.Core.Path.{_≡_, refl, sym, ap, subst, _∙_}
-use native.Mathlib.Nat.{le-of-eq}
 use native.Mathlib.Omega.{arith}
 use Rattle.sets.proofs.Tests.{last-or-below}
 use Rattle.causes.specs.Bounds.{most-steps}
@@ -14,37 +13,36 @@ use Rattle.map_passes.specs.Settle.{run-in, pair-in, run-of, pair-of, wo
 use Rattle.map_passes.specs.Passes.{Climbing, Settled}
 use Rattle.map_passes.proofs.Settling.{run-never, pair-never, run-low, word-run, word-pair}
 
-module _ {n nodes m : ℕ} {place g num low up closed word : ℕ → ℕ} {i : ℕ} (climb : Climbing n nodes g num low up closed)
-    (few : m ≤ most-steps) (root : (k : ℕ) → low (up k) ≡ low k → m ≤ place k) (bytes : (q : ℕ) → g q < 256) (b : i < nodes)
-    (done : (j : ℕ) → i < j → j < nodes → Settled m place g low up word (closed j)) where
+module _ {n nodes m : ℕ} {place num level up closed drop word : ℕ → ℕ} {i : ℕ} (climb : Climbing n nodes num level up closed drop)
+    (few : m ≤ most-steps) (root : (k : ℕ) → up k ≡ k → m ≤ place k) (b : i < nodes)
+    (done : (j : ℕ) → i < j → j < nodes → Settled m place level up word (closed j)) where
   abbrev node : ℕ
   node = closed i
 
   abbrev fall : ℕ
-  fall = g (low node) - g (low (up node))
+  fall = level node - level (up node)
 
-  pub turn-darker : g (low (up node)) ≤ g (low node)
-  turn-darker =
-      ⊎-elim
-      (λ e. le-of-eq (ap g e))
-      (λ apart. omega (arith, climb .darker node (climb .order .within i b) apart))
-      (equal-or-not (low (up node)) (low node))
+  pub turn-drop : drop i ≡ fall
+  turn-drop = omega (arith, climb .drops i b)
 
   -- the parent of the node at hand, unless that is the root
-  parent-settled : (low (up node) ≡ low node → ⊥) → Settled m place g low up word (up node)
+  parent-settled : (up node ≡ node → ⊥) → Settled m place level up word (up node)
   parent-settled apart =
       ⊎-elim
-      (λ own. absurd (apart (ap low own)))
-      (λ (j, late, l, e). subst (Settled m place g low up word) e (done j late l))
+      (λ own. absurd (apart own))
+      (λ (j, late, l, e). subst (Settled m place level up word) e (done j late l))
       (climb .order .later i b)
 
-  -- a running fall is at most the grey
-  turn-low : place node < m → fall + run-in (word (up node)) % 256 ≤ g (low node)
+  -- a running fall is at most the level
+  turn-low : place node < m → fall + run-in (word (up node)) % 256 ≤ level node
   turn-low falls =
-      omega (arith, parent-settled (λ e. omega (arith, root node e)) .low-run, turn-darker)
+      omega (arith, parent-settled (λ e. omega (arith, root node e)) .low-run, climb .drops i b)
+
+  level-byte : level node < 256
+  level-byte = climb .byte node (climb .order .within i b)
 
   pub turn-byte : place node < m → fall + run-in (word (up node)) % 256 < 256
-  turn-byte falls = omega (arith, turn-low falls, bytes (low node))
+  turn-byte falls = omega (arith, turn-low falls, level-byte)
 
   -- no settled node and no parent of one is the node at hand
   apart-now : (j : ℕ) → i < j → j < nodes → (closed j ≡ node → ⊥) × (up (closed j) ≡ node → ⊥)
@@ -70,14 +68,14 @@ module _ {n nodes m : ℕ} {place g num low up closed word : ℕ → ℕ} {i : �
     same =
         ⊎-elim
         (λ own.
-        let never : m ≤ place node = root node (ap low own) in (
+        let never : m ≤ place node = root node own in (
           run-never _ _ _ _ never ∙ sym (run-never _ _ _ _ never),
           pair-never _ _ _ _ _ never ∙ sym (pair-never _ _ _ _ _ never),
         ))
         (λ apart. rw (stored .there (up node) (within _ (climb .ups node (climb .order .within i b))) apart) (refl, refl))
         (equal-or-not (up node) node)
 
-    settled-now : Settled m place g low up word' node
+    settled-now : Settled m place level up word' node
     settled-now =
         let above : ℕ = word (up node) in
         let run : run-in (word' node) ≡ run-of m (place node) fall (run-in above) =
@@ -85,10 +83,10 @@ module _ {n nodes m : ℕ} {place g num low up closed word : ℕ → ℕ} {i : �
         record {
           run = run ∙ same .0;
           pair = ap pair-in (stored .here) ∙ word-pair m (place node) fall above few turn-byte ∙ same .1;
-          low-run = rw run (run-low m (place node) fall above few turn-byte (bytes (low node)) turn-low);
+          low-run = rw run (run-low m (place node) fall above few turn-byte level-byte turn-low);
         }
 
-    settled-still : (j : ℕ) → i < j → j < nodes → Settled m place g low up word' (closed j)
+    settled-still : (j : ℕ) → i < j → j < nodes → Settled m place level up word' (closed j)
     settled-still j late l =
         let (off, apart) = apart-now j late l in
         let k : ℕ = closed j in
@@ -102,9 +100,9 @@ module _ {n nodes m : ℕ} {place g num low up closed word : ℕ → ℕ} {i : �
           low-run = rw own (old .low-run);
         }
 
-    pub turn-settles : (j : ℕ) → i ≤ j → j < nodes → Settled m place g low up word' (closed j)
+    pub turn-settles : (j : ℕ) → i ≤ j → j < nodes → Settled m place level up word' (closed j)
     turn-settles j late l =
         ⊎-elim
-        (λ (e : i ≡ j). subst (λ (x : ℕ). Settled m place g low up word' (closed x)) e settled-now)
+        (λ (e : i ≡ j). subst (λ (x : ℕ). Settled m place level up word' (closed x)) e settled-now)
         (λ after. settled-still j after l)
         (last-or-below i j (omega arith))

@@ -7,21 +7,23 @@ use native.Mathlib.Omega.{arith}
 use lib.ListN.{length, getD, set, take, drop, length-set}
 use lib.Seq.{getD-take, getD-drop, getD-set-same, getD-set-other}
 use borrow.Rule.Slice.PartMut.{putMid, mid-len, set-mid-at}
-use Rattle.calls.specs.Calls.{grey}
 use Rattle.levels.specs.Tables.{Changed}
-use Rattle.levels.specs.Workspace.{closed-of, lowest-of, up-of}
+use Rattle.levels.specs.Workspace.{closed-of, drop-of, up-of}
 use Rattle.places.proofs.Places.{place-of-root}
 use Rattle.map_passes.specs.Settle.{word-of, Settleable, settled-at}
-use Rattle.map_passes.specs.Passes.{Given, word-at, place-at, down-at, Visitable, visited-at, Settled, Kept, Settled-from}
-use Rattle.map_passes.proofs.Keeping.{kept-lowest, kept-up, kept-held, kept-closed}
-use Rattle.map_passes.proofs.Turns.{turn-darker, turn-byte, turn-settles}
+use Rattle.map_passes.specs.Passes.{Climbable, Given, word-at, place-at, Visitable, visited-at, Settled, Kept, Settled-from}
+use Rattle.map_passes.proofs.Keeping.{kept-up, kept-held, kept-closed, kept-drop}
+use Rattle.map_passes.proofs.Turns.{turn-drop, turn-byte, turn-settles}
 
 -- the third part as it is lent on
 abbrev part : ℕ → List ℕ → List ℕ
 part n ws = take (3 * n - 2 * n) (drop (2 * n) ws)
 
--- one node of number k
-module _ {n : ℕ} {picture steps ws : List ℕ} {k : ℕ} (turn : Visitable n picture steps ws k) where
+-- the node closed at place i
+module _ {n : ℕ} {steps ws : List ℕ} {i : ℕ} (turn : Visitable n steps ws i) where
+  abbrev k : ℕ
+  k = closed-of n ws i
+
   part-size : length (part n ws) ≡ n
   part-size = mid-len (2 * n) (3 * n) ws (omega (arith, turn .ws-size)) ∙ omega arith
 
@@ -30,7 +32,7 @@ module _ {n : ℕ} {picture steps ws : List ℕ} {k : ℕ} (turn : Visitable n p
 
   -- the place is what the search for the step answers
   module _ {place : ℕ} (found : place ≡ place-at n steps ws k) where
-    pub visit-ready : Settleable (length steps) place (down-at n picture ws k) k (up-of n ws k) (part n ws)
+    pub visit-ready : Settleable (length steps) place (drop-of n ws i) k (up-of n ws k) (part n ws)
     visit-ready = record {
       few = turn .few;
       node = rw part-size (turn .number);
@@ -38,8 +40,8 @@ module _ {n : ℕ} {picture steps ws : List ℕ} {k : ℕ} (turn : Visitable n p
       byte = rw (found, part-read (up-of n ws k) (turn .up)) (turn .byte);
     }
 
-    pub visit-stores : {held : List ℕ} → held ≡ settled-at (length steps) place (down-at n picture ws k) k (up-of n ws k) (part n ws)
-        → putMid (2 * n) (3 * n - 2 * n) ws held ≡ visited-at n picture steps ws k
+    pub visit-stores : {held : List ℕ} → held ≡ settled-at (length steps) place (drop-of n ws i) k (up-of n ws k) (part n ws)
+        → putMid (2 * n) (3 * n - 2 * n) ws held ≡ visited-at n steps ws i
     unfolding settled-at
     visit-stores is =
         ap (putMid (2 * n) (3 * n - 2 * n) ws) is
@@ -61,15 +63,15 @@ stored-word {n} ws k v b = record {
 }
 
 -- at the start no node is settled
-pub visit-start : {n nodes : ℕ} {picture steps ws : List ℕ} → Settled-from n nodes picture steps ws ws nodes
+pub visit-start : {n nodes : ℕ} {steps ws : List ℕ} → Settled-from n nodes steps ws ws nodes
 visit-start = record {
   kept = record { words = refl; front = λ x l. refl; back = λ x l. refl };
-  done = λ j late l. absurd (omega arith);
+  done = λ level climb j late l. absurd (omega arith);
 }
 
 -- the turn before place h, after those from h on
-module _ {n nodes : ℕ} {picture steps ws ws' : List ℕ} {h : ℕ} (given : Given n nodes picture steps ws)
-    (bytes : (q : ℕ) → grey picture q < 256) (some : 0 < h) (most : h ≤ nodes) (prog : Settled-from n nodes picture steps ws ws' h) where
+module _ {n nodes : ℕ} {steps ws ws' : List ℕ} {h : ℕ} (given : Given n nodes steps ws) (some : 0 < h) (most : h ≤ nodes)
+    (prog : Settled-from n nodes steps ws ws' h) where
   abbrev i : ℕ
   i = h - 1
 
@@ -79,12 +81,12 @@ module _ {n nodes : ℕ} {picture steps ws ws' : List ℕ} {h : ℕ} (given : Gi
   b : i < nodes
   b = omega arith
 
-  done-later : (j : ℕ) → i < j → j < nodes
-      → Settled (length steps) (place-at n steps ws) (grey picture) (lowest-of n ws) (up-of n ws) (word-at n ws') (closed-of n ws j)
-  done-later j late l = prog .done j (omega arith) l
+  done-later : (level : ℕ → ℕ) → Climbable n nodes level ws → (j : ℕ) → i < j → j < nodes
+      → Settled (length steps) (place-at n steps ws) level (up-of n ws) (word-at n ws') (closed-of n ws j)
+  done-later level climb j late l = prog .done level climb j (omega arith) l
 
-  never-root : (k : ℕ) → lowest-of n ws (up-of n ws k) ≡ lowest-of n ws k → length steps ≤ place-at n steps ws k
-  never-root k e = place-of-root steps (lowest-of n ws k) _ _ e
+  never-root : (k : ℕ) → up-of n ws k ≡ k → length steps ≤ place-at n steps ws k
+  never-root k e = place-of-root steps k _ _ e
 
   inside : i < n
   inside = omega (arith, given .climb .few)
@@ -92,57 +94,44 @@ module _ {n nodes : ℕ} {picture steps ws ws' : List ℕ} {h : ℕ} (given : Gi
   node-within : node < nodes
   node-within = given .climb .order .within i b
 
+  node-small : node < n
+  node-small = omega (arith, node-within, given .climb .few)
+
   -- it asks of the words now what it asks of those at the start
-  visitable : Visitable n picture steps ws' node
-  visitable = record {
+  pub visit-asked : Visitable n steps ws' i
+  visit-asked = record {
     few = given .few;
     rise = given .rise;
-    size = given .size;
     ws-size = prog .kept .words ∙ given .ws-size;
-    number = omega (arith, node-within, given .climb .few);
-    low = rw (kept-lowest (prog .kept) node) (given .climb .low-within node node-within);
-    up = rw (kept-up (prog .kept) node) (omega (arith, given .climb .ups node node-within, given .climb .few));
-    above =
+    place = inside;
+    number = rw (kept-closed (prog .kept) i inside) node-small;
+    up =
         rw
-        (kept-up (prog .kept) node, kept-lowest (prog .kept) (up-of n ws node))
-        (given .climb .low-within (up-of n ws node) (given .climb .ups node node-within));
-    darker =
-        rw
-        (kept-up (prog .kept) node, kept-lowest (prog .kept) (up-of n ws node), kept-lowest (prog .kept) node)
-        (turn-darker (given .climb) (given .few) never-root bytes b done-later);
+        (kept-closed (prog .kept) i inside, kept-up (prog .kept) node)
+        (omega (arith, given .climb .ups node node-within, given .climb .few));
     byte =
         rw (
+          kept-closed (prog .kept) i inside,
+          kept-drop (prog .kept) i inside,
           kept-up (prog .kept) node,
-          kept-lowest (prog .kept) (up-of n ws node),
-          kept-lowest (prog .kept) node,
           kept-held (prog .kept) node,
+          turn-drop (given .climb) (given .few) never-root b (done-later (given .level) (given .climb)),
         )
-        (turn-byte (given .climb) (given .few) never-root bytes b done-later);
+        (turn-byte (given .climb) (given .few) never-root b (done-later (given .level) (given .climb)));
   }
 
-  pub visit-asked : (i < n) × Visitable n picture steps ws' (closed-of n ws' i)
-  visit-asked = (inside, rw (kept-closed (prog .kept) i inside) visitable)
-
-  pub visit-more : {ws'' : List ℕ} → ws'' ≡ visited-at n picture steps ws' (closed-of n ws' i)
-      → Settled-from n nodes picture steps ws ws'' i
+  pub visit-more : {ws'' : List ℕ} → ws'' ≡ visited-at n steps ws' i → Settled-from n nodes steps ws ws'' i
   visit-more {ws''} is =
       let k = prog .kept in
       let now : ws''
       ≡ set ws' (2 * n + node)
-      (word-of (length steps) (place-at n steps ws node) (down-at n picture ws node) (word-at n ws' (up-of n ws node))) =
-      is
-      ∙ rw
-      (kept-closed k i inside, kept-up k node, kept-lowest k (up-of n ws node), kept-lowest k node, kept-held k node)
-      refl in
+      (word-of (length steps) (place-at n steps ws node) (drop-of n ws i) (word-at n ws' (up-of n ws node))) =
+      is ∙ rw (kept-closed k i inside, kept-drop k i inside, kept-up k node, kept-held k node) refl in
       rw now (record {
-        kept = kept-stored k node _ (visitable .number);
-        done =
-            turn-settles
-            (given .climb)
-            (given .few)
-            never-root
-            bytes
-            b
-            done-later
-            (stored-word ws' node _ (omega (arith, visitable .ws-size, visitable .number)));
+        kept = kept-stored k node _ node-small;
+        done = λ level climb.
+            let done = done-later level climb in
+            turn-settles climb (given .few) never-root b done
+            (rw (← turn-drop climb (given .few) never-root b done)
+            (stored-word ws' node _ (omega (arith, prog .kept .words, given .ws-size, node-small))));
       })

@@ -5,11 +5,10 @@
 // the number of steps only by the search for the steps at which nodes fall.
 ghost use mathlib.Core.Path.{_≡_};
 ghost use mathlib.Core.Bool.{cond};
-ghost use Prim.Native.Nat.{ℕ, _%_, _<_};
+ghost use Prim.Native.Nat.{ℕ, _%_};
 ghost use lib.Dec.{ltb};
 ghost use lib.ListN.{length};
 ghost use Rattle.sets.specs.Sets.{table};
-ghost use Rattle.levels.specs.Workspace.{closed-of};
 ghost use Rattle.places.specs.Places.{small-places};
 ghost use Rattle.map_passes.specs.Settle.{shared-fall, index-in, Settleable, settled-at};
 ghost use Rattle.map_passes.specs.Passes.{Given, Settled-from, Visitable, visited-at, pair-at, Spreadable, Ready, Written};
@@ -47,39 +46,30 @@ fn settle(count: usize, place: usize, down: u32, k: usize, up: usize, held: &mut
 }
 
 // Settles the node at place i of the order of closing. Part 3 is lent on.
-fn visit(picture: &[u8], steps: &[u32], table: &[usize; 256], n: usize, i: usize, ws: &mut [u32])
-    requires { ⌜ (i < n) × Visitable n (now picture) (now steps) (now ws) (closed-of n (now ws) i) ⌝ }
+fn visit(steps: &[u32], table: &[usize; 256], n: usize, i: usize, ws: &mut [u32])
+    requires { ⌜ Visitable n (now steps) (now ws) i ⌝ }
     requires { ⌜ now table ≡ small-places (now steps) ⌝ }
-    ensures { λ _. ⌜ now (ws .exit)
-        ≡ visited-at n (now (picture .entry)) (now (steps .entry)) (now (ws .entry)) (closed-of n (now (ws .entry)) i) ⌝ }
+    ensures { λ _. ⌜ now (ws .exit) ≡ visited-at n (now (steps .entry)) (now (ws .entry)) i ⌝ }
 {
-    let k = ws[n + i] as usize;
-    let low = ws[3 * n + 3 * k] as usize;
+    let word = ws[n + i];
+    let k = (word / 256) as usize;
+    let down = word % 256;
     let up = ws[3 * n + 3 * k + 1] as usize;
     let a = ws[3 * n + 3 * k + 2];
-    let above = ws[3 * n + 3 * up] as usize;
-    let place = places::place(steps, table, low, above, a);
-    let down = (picture[low] - picture[above]) as u32;
+    let place = places::place(steps, table, k, up, a);
     settle(steps.len(), place, down, k, up, &mut ws[2 * n..3 * n]);
 }
 
 // Every node, the last closed first.
-fn settle_nodes(
-    picture: &[u8],
-    steps: &[u32],
-    table: &[usize; 256],
-    n: usize,
-    nodes: usize,
-    ws: &mut [u32],
-)
-    requires { ⌜ Given n nodes (now picture) (now steps) (now ws) ⌝ }
+fn settle_nodes(steps: &[u32], table: &[usize; 256], n: usize, nodes: usize, ws: &mut [u32])
+    requires { ⌜ Given n nodes (now steps) (now ws) ⌝ }
     requires { ⌜ now table ≡ small-places (now steps) ⌝ }
-    ensures { λ _. ⌜ Settled-from n nodes (now (picture .entry)) (now (steps .entry)) (now (ws .entry)) (now (ws .exit)) 0 ⌝ }
+    ensures { λ _. ⌜ Settled-from n nodes (now (steps .entry)) (now (ws .entry)) (now (ws .exit)) 0 ⌝ }
 {
     let mut i = nodes;
     while i > 0 {
         i -= 1;
-        visit(picture, steps, table, n, i, ws);
+        visit(steps, table, n, i, ws);
     }
 }
 
@@ -114,6 +104,6 @@ pub fn write_maps(
 {
     let n = picture.len();
     let table = places::small_places(steps);
-    settle_nodes(picture, steps, &table, n, nodes, ws);
+    settle_nodes(steps, &table, n, nodes, ws);
     spread(n, ws, residues, indices);
 }

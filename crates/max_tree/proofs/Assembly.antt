@@ -1,11 +1,11 @@
 -- The flood and the passes over the words of the nodes: what holds after each, and that it is what the next asks.
-use Prim.Native.Nat.{ℕ, _+_, _<_}
+use Prim.Native.Nat.{ℕ, _+_, _/_, _%_, _<_}
 use mathlib.Core.List.{List}
 use mathlib.Core.Path.{_≡_, refl, sym, ap, _∙_}
 use native.Mathlib.Nat.{le-refl, mod-lt, mul-comm, div-lt-iff-lt-mul}
 use native.Mathlib.Omega.{arith}
 use lib.Dec.{eqb}
-use lib.ListN.{length}
+use lib.ListN.{getD, length}
 use borrow.Author.Tests.{eqb-true, eq-eqb}
 use Rattle.sets.specs.Sets.{member}
 use Rattle.sets.specs.Gather.{first-in}
@@ -25,7 +25,7 @@ use Rattle.tree.proofs.Record.{representative-lowest, parent-lowest}
 use Rattle.causes.specs.Bounds.{longest-side}
 use Rattle.causes.proofs.Laws.{Bounded, bounded}
 use Rattle.levels.specs.Levels.{grey}
-use Rattle.levels.specs.Workspace.{Sized, number-at, lowest-of, up-of, held-of}
+use Rattle.levels.specs.Workspace.{Sized, number-at, closed-of, lowest-of, up-of, held-of}
 use Rattle.flooding.specs.Numbers.{parent-by}
 use Rattle.flood.specs.Calls.{Floodable, NumberedBy}
 use Rattle.accumulators.specs.Accumulators.{nothing, single, combined, measured, gathered, Short}
@@ -33,7 +33,7 @@ use Rattle.accumulators.proofs.Accumulators.{single-small, gathered-ends, measu
 use Rattle.branches.specs.Branches.{branch}
 use Rattle.branches.proofs.Branches.{node-branch}
 use Rattle.numbers.specs.Nodes.{NodesOf}
-use Rattle.numbers.proofs.Same.{order-same, numbered-same}
+use Rattle.numbers.proofs.Same.{order-same, drops-same, numbered-same}
 use Rattle.numbers.proofs.Numbers.{number-forest, parent-first, number-root, number-lowest}
 use Rattle.own_pixels.specs.OwnPixels.{numbered, Countable, Owned}
 use Rattle.descendants.specs.Pouring.{Pourable, Poured}
@@ -112,6 +112,9 @@ module _ {grid : Grid} {a : ℕ} {picture ws : List ℕ} {m : ℕ} (F : Flood-le
     same-number : (q : ℕ) → q < length picture → number-at ws' q ≡ number-at ws q
     same-number q b = O .kept .before q (omega arith)
 
+    same-word : (i : ℕ) → i < m → getD ws' (length picture + i) 0 ≡ getD ws (length picture + i) 0
+    same-word i b = O .kept .before (length picture + i) (omega (arith, F .numbers .few))
+
     same-own : (k x : ℕ) → x < length picture → numbered ws k x ≡ numbered ws' k x
     same-own k x b = ap (λ (i : ℕ). eqb i k) (sym (same-number x b))
 
@@ -125,7 +128,8 @@ module _ {grid : Grid} {a : ℕ} {picture ws : List ℕ} {m : ℕ} (F : Flood-le
                     numbered-same
                     same-number
                     (O .kept .ups)
-                    (λ i b. O .kept .before (length picture + i) (omega (arith, F .numbers .few)))
+                    (λ i b. ap (λ (v : ℕ). v / 256) (same-word i b))
+                    (λ i b. ap (λ (v : ℕ). v % 256) (same-word i b))
                     (F .numbers);
               };
           lowest = λ k b. O .lowest k b ∙ gather-ext (length picture) _ _ _ (numbered ws k) (numbered ws' k) (same-own k);
@@ -175,6 +179,12 @@ module _ {grid : Grid} {a : ℕ} {picture ws : List ℕ} {m : ℕ} (O : Own-left
     kept-number : (q : ℕ) → q < n → number-at ws' q ≡ number-at ws q
     kept-number q b = P .before q (omega arith)
 
+    kept-word : (i : ℕ) → i < m → getD ws' (n + i) 0 ≡ getD ws (n + i) 0
+    kept-word i b = P .before (n + i) (omega (arith, N .few))
+
+    kept-closed : (i : ℕ) → i < m → closed-of n ws' i ≡ closed-of n ws i
+    kept-closed i b = ap (λ (v : ℕ). v / 256) (kept-word i b)
+
     -- the lowest own pixel that is noted for a number is that of its node
     lowest-is : (k : ℕ) → k < m → lowest-of n ws' k ≡ first-in n (numbered ws k)
     lowest-is k b = P .lowests k b ∙ O .lowest k b
@@ -190,6 +200,11 @@ module _ {grid : Grid} {a : ℕ} {picture ws : List ℕ} {m : ℕ} (O : Own-left
     lowest-numbered : (k : ℕ) → k < m → number-at ws (first-in n (numbered ws k)) ≡ k
     lowest-numbered k b =
         eqb-true (number-at ws (first-in n (numbered ws k))) k (first-in-holds n (numbered ws k) (lowest-within k b))
+
+    -- and has its level
+    lowest-level : (k : ℕ) → k < m → g (lowest-of n ws' k) ≡ g (N .first k)
+    lowest-level k b =
+        rw (lowest-is k b) (sym (rw (lowest-numbered k b) at (N .level (first-in n (numbered ws k)) (lowest-within k b))))
 
     lowest-first : (k : ℕ) → k < m → lowest-of n ws' k ≡ lowest n g par (N .first k)
     lowest-first k b = lowest-is k b ∙ sym (number-lowest N k b)
@@ -249,7 +264,9 @@ module _ {grid : Grid} {a : ℕ} {picture ws : List ℕ} {m : ℕ} (O : Own-left
               rw (lowest-is k b) (parent-is k b (first-in n (numbered ws k)) (lowest-within k b) (lowest-numbered k b));
           attributes = λ k b.
               rw (lowest-is k b) (attribute-is k b (first-in n (numbered ws k)) (lowest-within k b) (lowest-numbered k b));
-          order = order-same (P .ups) (λ i b. P .before (n + i) (omega (arith, N .few))) (N .order);
+          order = order-same (P .ups) kept-closed (N .order);
+          drops =
+              drops-same (P .ups) kept-closed (N .order) lowest-level (λ i b. ap (λ (v : ℕ). v % 256) (kept-word i b)) (N .up-within) (N .drops);
         }
 
     pub noded : Buildable grid picture ws' → Noded grid a picture ws' m

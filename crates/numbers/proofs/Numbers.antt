@@ -18,7 +18,7 @@ node-root-level : (g par : ℕ → ℕ) (q : ℕ) → g (par q) ≡ g q → node
 unfolding node-root
 node-root-level g par q e = rw (eq-eqb (g (par q)) (g q) e) refl
 
-module _ {n : ℕ} {adj : Adjacency} {g num up closed : ℕ → ℕ} {m : ℕ} (N : Numbered n adj g num up closed m) where
+module _ {n : ℕ} {adj : Adjacency} {g num up closed drop : ℕ → ℕ} {m : ℕ} (N : Numbered n adj g num up closed drop m) where
   abbrev par : ℕ → ℕ
   par = parent-by (N .first) num up
 

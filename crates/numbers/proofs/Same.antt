@@ -1,11 +1,11 @@
 -- Numbers and the words of the nodes stay what they are where the words are the same. Assumes nothing.
 use Prim.Native.Nat.{ℕ, _<_}
 use mathlib.Core.Logic.{inl, inr, ⊎-elim}
-use mathlib.Core.Path.{_≡_, refl, sym, _∙_}
+use mathlib.Core.Path.{_≡_, refl, sym, ap, _∙_}
 use native.Mathlib.Omega.{arith}
 use Rattle.sets.specs.Sets.{Positions}
 use Rattle.connected.specs.Component.{Adjacency}
-use Rattle.flooding.specs.Numbers.{parent-by, Closing-order, Numbered}
+use Rattle.flooding.specs.Numbers.{Drops, parent-by, Closing-order, Numbered}
 use Rattle.flooding.proofs.Numbers.{flooded-same}
 use Rattle.numbers.specs.Nodes.{Nodes}
 
@@ -27,15 +27,26 @@ module _ {m : ℕ} {up closed up' closed' : ℕ → ℕ} (same-up : (k : ℕ) �
               (O .later i b));
         }
 
+    -- and the drops, also where the levels are read of other pixels
+    pub drops-same :
+        {level drop level' drop' : ℕ → ℕ} → ((k : ℕ) → k < m → level' k ≡ level k) → ((i : ℕ) → i < m → drop' i ≡ drop i)
+        → ((k : ℕ) → k < m → up k < m) → Drops m level up closed drop → Drops m level' up' closed' drop'
+    drops-same same-level same-drop ups D i b =
+        let k = closed i in
+        let inside = O .within i b in
+        rw
+        (same-drop i b, same-closed i b, same-up k inside, same-level k inside, same-level (up k) (ups k inside))
+        (D i b)
+
 -- what the flood leaves
-module _ {n m : ℕ} {adj : Adjacency} {g num up closed num' up' closed' : ℕ → ℕ} (same-num : (q : ℕ) → q < n → num' q ≡ num q)
+module _ {n m : ℕ} {adj : Adjacency} {g num up closed drop num' up' closed' drop' : ℕ → ℕ} (same-num : (q : ℕ) → q < n → num' q ≡ num q)
     (same-up : (k : ℕ) → k < m → up' k ≡ up k) (same-closed : (i : ℕ) → i < m → closed' i ≡ closed i)
-    (N : Numbered n adj g num up closed m)
+    (same-drop : (i : ℕ) → i < m → drop' i ≡ drop i) (N : Numbered n adj g num up closed drop m)
   where
     same-parent : (q : ℕ) → q < n → parent-by (N .first) num' up' q ≡ parent-by (N .first) num up q
     same-parent q b = rw (same-num q b, same-up (num q) (N .within q b)) refl
 
-    pub numbered-same : Numbered n adj g num' up' closed' m
+    pub numbered-same : Numbered n adj g num' up' closed' drop' m
     numbered-same =
         record {
           few = N .few;
@@ -48,15 +59,18 @@ module _ {n m : ℕ} {adj : Adjacency} {g num up closed num' up' closed' : ℕ �
           dim = λ k b. rw (same-up k b) (N .dim k b);
           flooded = flooded-same same-parent (N .flooded);
           order = order-same same-up same-closed (N .order);
+          drops =
+              drops-same same-up same-closed (N .order) {level = λ (k : ℕ). g (N .first k)} (λ k b. refl) same-drop (N .up-within) (N .drops);
         }
 
 -- the words of the nodes
-module _ {n m : ℕ} {adj : Adjacency} {attr : Positions → ℕ} {g num low up held closed num' low' up' held' closed' : ℕ → ℕ}
+module _ {n m : ℕ} {adj : Adjacency} {attr : Positions → ℕ} {g num low up held closed drop num' low' up' held' closed' drop' : ℕ → ℕ}
     (same-num : (q : ℕ) → q < n → num' q ≡ num q) (same-low : (k : ℕ) → k < m → low' k ≡ low k)
     (same-up : (k : ℕ) → k < m → up' k ≡ up k) (same-held : (k : ℕ) → k < m → held' k ≡ held k)
-    (same-closed : (i : ℕ) → i < m → closed' i ≡ closed i) (N : Nodes n adj attr g num low up held closed m)
+    (same-closed : (i : ℕ) → i < m → closed' i ≡ closed i) (same-drop : (i : ℕ) → i < m → drop' i ≡ drop i)
+    (N : Nodes n adj attr g num low up held closed drop m)
   where
-    pub nodes-same : Nodes n adj attr g num' low' up' held' closed' m
+    pub nodes-same : Nodes n adj attr g num' low' up' held' closed' drop' m
     nodes-same =
         record {
           few = N .few;
@@ -68,4 +82,5 @@ module _ {n m : ℕ} {adj : Adjacency} {attr : Positions → ℕ} {g num low up 
           parents = λ k b. rw (same-up k b, same-low (up k) (N .ups k b), same-low k b) (N .parents k b);
           attributes = λ k b. rw (same-held k b, same-low k b) (N .attributes k b);
           order = order-same same-up same-closed (N .order);
+          drops = drops-same same-up same-closed (N .order) (λ k b. ap g (same-low k b)) same-drop (N .ups) (N .drops);
         }

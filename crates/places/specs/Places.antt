@@ -7,7 +7,7 @@ use lib.ListN.{length}
 use Rattle.sets.specs.Sets.{table}
 use Rattle.falls.specs.Falls.{places-before}
 
--- the place of the step at which the node of r falls, by its parent's representative and its attribute; the number of steps if it never does
+-- the place of the step at which the node of number r falls, by its parent's number and its attribute; the number of steps if it never does
 unfoldable pub place-of : List ℕ → ℕ → ℕ → ℕ → ℕ
 place-of steps r parent a = cond (eqb parent r) (length steps) (places-before a steps)
 

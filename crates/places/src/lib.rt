@@ -37,7 +37,7 @@ pub fn small_places(steps: &[u32]) -> [usize; 256]
     table
 }
 
-// The place of the step at which the node of r falls, the number of steps if it never does.
+// The place of the step at which the node of number r falls, the number of steps if it never does, as the root, which is its own parent.
 pub fn place(steps: &[u32], table: &[usize; 256], r: usize, parent: usize, a: u32) -> usize
     requires { ⌜ rising 0 (now steps) ≡ true ⌝ }
     requires { ⌜ now table ≡ small-places (now steps) ⌝ }

@@ -11,7 +11,7 @@ use lib.ListN.{getD, length, set, length-set}
 use lib.Seq.{getD-set-same, getD-set-other}
 use Rattle.causes.specs.Bounds.{words-a-pixel, most-pixels}
 use Rattle.levels.specs.Tables.{Changed}
-use Rattle.levels.specs.Workspace.{Sized, number-at, closed-of, order-of, up-of}
+use Rattle.levels.specs.Workspace.{Sized, number-at, closed-of, drop-of, order-of, up-of}
 use Rattle.levels.proofs.Counts.{by-cases}
 use Rattle.levels.proofs.Tables.{stored}
 use Rattle.flooding.specs.Numbers.{Numbering}
@@ -58,33 +58,43 @@ module _ (n : ℕ) (ws : List ℕ) (size : length ws ≡ words-a-pixel * n) (q k
       hit-second ws q k (2 * n + t) q (λ x. 2 * n + x) t refl (omega arith)
       (λ x h ne. (λ e. omega arith, λ e. ne (omega arith)))
 
-  closed-pushed : (i : ℕ) → i < n → closed-of n (pushed-words n ws q k t) i ≡ closed-of n ws i
-  closed-pushed i h = missed ws q k (2 * n + t) q (λ x. n + x) i (λ e. omega arith) (λ e. omega arith)
+  word-pushed : (i : ℕ) → i < n → getD (pushed-words n ws q k t) (n + i) 0 ≡ getD ws (n + i) 0
+  word-pushed i h = missed ws q k (2 * n + t) q (λ x. n + x) i (λ e. omega arith) (λ e. omega arith)
 
   up-pushed : (j : ℕ) → j < n → up-of n (pushed-words n ws q k t) j ≡ up-of n ws j
   up-pushed j h = missed ws q k (2 * n + t) q (λ x. 3 * n + 3 * x + 1) j (λ e. omega arith) (λ e. omega arith)
 
--- the number k at place i of the order of closing, and its parent's number p among the words of k
-abbrev pub shut-words : ℕ → List ℕ → ℕ → ℕ → ℕ → List ℕ
-shut-words n ws i k p = set (set ws (n + i) k) (3 * n + 3 * k + 1) p
+-- the word v at place i of the order of closing, and the parent's number p among the words of k
+abbrev pub shut-words : ℕ → List ℕ → ℕ → ℕ → ℕ → ℕ → List ℕ
+shut-words n ws i v k p = set (set ws (n + i) v) (3 * n + 3 * k + 1) p
 
-module _ (n : ℕ) (ws : List ℕ) (size : length ws ≡ words-a-pixel * n) (i k p : ℕ) (in-i : i < n) (in-k : k < n) where
-  closed-shut : Changed n (closed-of n ws) (closed-of n (shut-words n ws i k p)) i k
-  closed-shut =
-      hit-first ws (n + i) k (3 * n + 3 * k + 1) p (λ x. n + x) i refl (omega arith) (λ e. omega arith)
+module _ (n : ℕ) (ws : List ℕ) (size : length ws ≡ words-a-pixel * n) (i v k p : ℕ) (in-i : i < n) (in-k : k < n) where
+  word-shut : Changed n (λ x. getD ws (n + x) 0) (λ x. getD (shut-words n ws i v k p) (n + x) 0) i v
+  word-shut =
+      hit-first ws (n + i) v (3 * n + 3 * k + 1) p (λ x. n + x) i refl (omega arith) (λ e. omega arith)
       (λ x h ne. (λ e. ne (omega arith), λ e. omega arith))
 
-  up-shut : Changed n (up-of n ws) (up-of n (shut-words n ws i k p)) k p
+  -- a word that holds the number k and the drop d
+  module _ {d : ℕ} (is : v ≡ k * 256 + d) (byte : d < 256) where
+    closed-shut : Changed n (closed-of n ws) (closed-of n (shut-words n ws i v k p)) i k
+    closed-shut =
+        record { here = omega (arith, word-shut .here); there = λ x h ne. ap (λ (y : ℕ). y / 256) (word-shut .there x h ne) }
+
+    drop-shut : Changed n (drop-of n ws) (drop-of n (shut-words n ws i v k p)) i d
+    drop-shut =
+        record { here = omega (arith, word-shut .here); there = λ x h ne. ap (λ (y : ℕ). y % 256) (word-shut .there x h ne) }
+
+  up-shut : Changed n (up-of n ws) (up-of n (shut-words n ws i v k p)) k p
   up-shut =
-      hit-second ws (n + i) k (3 * n + 3 * k + 1) p (λ x. 3 * n + 3 * x + 1) k refl (omega arith)
+      hit-second ws (n + i) v (3 * n + 3 * k + 1) p (λ x. 3 * n + 3 * x + 1) k refl (omega arith)
       (λ x h ne. (λ e. omega arith, λ e. ne (omega arith)))
 
-  number-shut : (q : ℕ) → q < n → number-at (shut-words n ws i k p) q ≡ number-at ws q
-  number-shut q h = missed ws (n + i) k (3 * n + 3 * k + 1) p (λ x. x) q (λ e. omega arith) (λ e. omega arith)
+  number-shut : (q : ℕ) → q < n → number-at (shut-words n ws i v k p) q ≡ number-at ws q
+  number-shut q h = missed ws (n + i) v (3 * n + 3 * k + 1) p (λ x. x) q (λ e. omega arith) (λ e. omega arith)
 
-  order-shut : (t : ℕ) → t < n → order-of n (shut-words n ws i k p) t ≡ order-of n ws t
+  order-shut : (t : ℕ) → t < n → order-of n (shut-words n ws i v k p) t ≡ order-of n ws t
   order-shut t h =
-      missed ws (n + i) k (3 * n + 3 * k + 1) p (λ x. 2 * n + x) t (λ e. omega arith) (λ e. omega arith)
+      missed ws (n + i) v (3 * n + 3 * k + 1) p (λ x. 2 * n + x) t (λ e. omega arith) (λ e. omega arith)
 
 -- the word that holds the bit of level l, and that word with the bit set and with the bit cleared
 abbrev pub mark-word : List ℕ → ℕ → ℕ
@@ -162,7 +172,8 @@ numbering-pushed {n} {q} {k = k} {t} {ws} size in-q in-t N =
       num = num;
       open-at = N .open-at;
       up = up-pushed n ws (size .words) q k t in-q in-t;
-      closed = closed-pushed n ws (size .words) q k t in-q in-t;
+      closed = λ i h. ap (λ (v : ℕ). v / 256) (word-pushed n ws (size .words) q k t in-q in-t i h);
+      drop = λ i h. ap (λ (v : ℕ). v % 256) (word-pushed n ws (size .words) q k t in-q in-t i h);
       done = N .done;
     })
 
@@ -237,9 +248,9 @@ module _ {n l : ℕ} {ws opened : List ℕ} (C : Closable n ws opened l) where
       omega (arith, next-kept N, C .within m (omega (arith, N .lower, C .level)), C .sized .small)
 
   pub shuts :
-      (p : ℕ)
-      → Shut n ws opened (shut-words n ws (getD opened 261 0) (getD opened l 0) p) (closed-next n opened l) l p
-  shuts p =
+      {v d : ℕ} (p : ℕ) → v ≡ getD opened l 0 * 256 + d → d < 256
+      → Shut n ws opened (shut-words n ws (getD opened 261 0) v (getD opened l 0) p) (closed-next n opened l) l p d
+  shuts {v} p v-is byte =
       let i = getD opened 261 0 in
       let k = getD opened l 0 in
       let w = mark-word opened l in
@@ -259,25 +270,28 @@ module _ {n l : ℕ} {ws opened : List ℕ} (C : Closable n ws opened l) where
             (ap (λ (y : ℕ). digit y (l % 64)) is ∙ clear-here w (l % 64) level-marked));
         shutting =
             record {
-              up = up-shut n ws size i k p (C .left) (C .open-here);
-              closed = closed-shut n ws size i k p (C .left) (C .open-here);
+              up = up-shut n ws size i v k p (C .left) (C .open-here);
+              closed = closed-shut n ws size i v k p (C .left) (C .open-here) v-is byte;
+              drop = drop-shut n ws size i v k p (C .left) (C .open-here) v-is byte;
               open-at = closed-at;
-              num = number-shut n ws size i k p (C .left) (C .open-here);
+              num = number-shut n ws size i v k p (C .left) (C .open-here);
               taken =
                   getD-set-other marked 261 260 (i + 1) 0 (λ z. omega arith)
                   ∙ past-kept opened l n x (C .wide) (C .level) 260 (omega arith);
               done = getD-set-same marked 261 (i + 1) 0 (omega arith) ∙ add-one i;
             };
-        ord = order-shut n ws size i k p (C .left) (C .open-here);
+        ord = order-shut n ws size i v k p (C .left) (C .open-here);
       }
 
   pub shuts-below :
       {m : ℕ} → NextOpen n opened l m
-      → Shut n ws opened (shut-words n ws (getD opened 261 0) (getD opened l 0) (getD (closed-next n opened l) m 0))
+      → let k = getD opened l 0 in
+      Shut n ws opened (shut-words n ws (getD opened 261 0) (k * 256 + (l - m)) k (getD (closed-next n opened l) m 0))
       (closed-next n opened l)
       l
       (getD opened m 0)
-  shuts-below {m} N = rw (next-kept N) (shuts (getD opened m 0))
+      (l - m)
+  shuts-below {m} N = rw (next-kept N) (shuts (getD opened m 0) refl (omega (arith, C .level)))
 
 -- what the search below a level found
 module _ {n : ℕ} {opened : List ℕ} {l m : ℕ} (F : NextBelow n opened l m) where

@@ -1,12 +1,12 @@
 -- The queues of the levels and the numbers of the nodes, on the lists that their functions are lent.
-use Prim.Native.Nat.{ℕ, suc, _+_, _*_, _≤_, _<_}
+use Prim.Native.Nat.{ℕ, suc, _+_, _*_, _-_, _≤_, _<_}
 use mathlib.Core.List.{List}
 use mathlib.Core.Logic.{_⊎_}
 use mathlib.Core.Path.{_≡_}
 use lib.ListN.{getD, length, set}
 use Rattle.causes.specs.Bounds.{most-pixels}
 use Rattle.levels.specs.Tables.{Changed}
-use Rattle.levels.specs.Workspace.{Sized, number-at, closed-of, order-of, up-of}
+use Rattle.levels.specs.Workspace.{Sized, number-at, closed-of, drop-of, order-of, up-of}
 use Rattle.flooding.specs.Flooding.{State}
 use Rattle.flooding.specs.Numbers.{Numbers, Numbering, Shutting}
 use Rattle.queues.specs.Marks.{Marked}
@@ -35,6 +35,7 @@ numbers-of n ws opened =
       num = number-at ws;
       up = up-of n ws;
       closed = closed-of n ws;
+      drop = drop-of n ws;
       open-at = λ (k : ℕ). getD opened k 0;
       taken = taken-of opened;
       done = done-of opened;
@@ -143,15 +144,15 @@ pub record Closable (n : ℕ) (ws opened : List ℕ) (l : ℕ) : Type 0 where
   pub within : (k : ℕ) → k < 256 → getD opened k 0 ≤ n
   pub left : done-of opened < n
 
--- the node of level l is closed, its parent's number is p, and the queues stay
-pub record Shut (n : ℕ) (ws opened ws' opened' : List ℕ) (l p : ℕ) : Type 0 where
+-- the node of level l is closed, its parent's number is p and its drop d, and the queues stay
+pub record Shut (n : ℕ) (ws opened ws' opened' : List ℕ) (l p d : ℕ) : Type 0 where
   pub wide : length opened' ≡ 262
   pub marks : Marked n opened'
-  pub shutting : Shutting n l (getD opened l 0) p (numbers-of n ws opened) (numbers-of n ws' opened')
+  pub shutting : Shutting n l (getD opened l 0) p d (numbers-of n ws opened) (numbers-of n ws' opened')
   pub ord : (i : ℕ) → i < n → order-of n ws' i ≡ order-of n ws i
 
 -- the node of level l is closed below that of level m; the last, where m is 256, is its own parent
 abbrev pub ClosedTo : ℕ → List ℕ → List ℕ → List ℕ → List ℕ → ℕ → ℕ → Type 0
 ClosedTo n ws opened ws' opened' l m =
-    (NextOpen n opened l m × Shut n ws opened ws' opened' l (getD opened m 0))
-    ⊎ ((m ≡ 256) × NoneOpen n opened l × Shut n ws opened ws' opened' l (getD opened l 0))
+    (NextOpen n opened l m × Shut n ws opened ws' opened' l (getD opened m 0) (l - m))
+    ⊎ ((m ≡ 256) × NoneOpen n opened l × Shut n ws opened ws' opened' l (getD opened l 0) 0)

@@ -114,9 +114,9 @@ fn open_below(level: usize, n: usize, opened: &[usize; 262]) -> usize
     256
 }
 
-// Closes the node of the level named: its number is put at the end of the order of closing in part 2, and its parent's number, that of
-// the open node of the brightest open level below, among its words. The answer is that level, 256 where there is none and the node is
-// its own parent.
+// Closes the node of the level named: its number and its drop, how far its level lies above its parent's, are put in one word at the end of
+// the order of closing in part 2, and its parent's number, that of the open node of the brightest open level below, among its words. The
+// answer is that level, 256 where there is none and the node is its own parent.
 pub fn close(n: usize, level: usize, ws: &mut [u32], opened: &mut [usize; 262]) -> usize
     requires { ⌜ Closable n (now ws) (now opened) level ⌝ }
     ensures { λ r. ⌜ ClosedTo n (now (ws .entry)) (now (opened .entry)) (now (ws .exit)) (now (opened .exit)) level r ⌝ }
@@ -127,11 +127,12 @@ pub fn close(n: usize, level: usize, ws: &mut [u32], opened: &mut [usize; 262]) 
     opened[level] = n;
     opened[256 + level / 64] = opened[256 + level / 64] - (1 << (level % 64));
     opened[261] = i + 1;
-    ws[n + i] = k as u32;
     if m == 256 {
+        ws[n + i] = (k * 256) as u32;
         ws[3 * n + 3 * k + 1] = k as u32;
         return 256;
     }
+    ws[n + i] = (k * 256 + (level - m)) as u32;
     ws[3 * n + 3 * k + 1] = opened[m] as u32;
     m
 }

@@ -1,16 +1,15 @@
 -- What a map call answers and writes: refused, it leaves all as it was; accepted, both passes over the words of the nodes, and then the
 -- record. Assumes nothing.
-use Prim.Native.Nat.{ℕ, _+_, _*_}
+use Prim.Native.Nat.{ℕ, _+_, _*_, _<_}
 use mathlib.Core.List.{List, _++_}
 use mathlib.Core.Path.{_≡_, refl, sym, ap, _∙_}
 use native.Mathlib.Omega.{arith}
 use lib.ListN.{length, take, replicate}
 use Rattle.grid.specs.Attributes.{attribute}
-use Rattle.grid.proofs.Attributes.{adjacent-symmetric}
 use Rattle.causes.specs.Bounds.{words-a-pixel}
 use Rattle.causes.specs.declared.Cause.{Cause}
 use Rattle.calls.specs.Judging.{verdict-numbers}
-use Rattle.calls.specs.Calls.{record-of, Map-call, map-verdict, map-workspace, map-residue, map-index}
+use Rattle.calls.specs.Calls.{grey, record-of, Map-call, map-verdict, map-workspace, map-residue, map-index}
 use Rattle.calls.specs.declared.Verdict.{Verdict}
 use Rattle.calls.specs.declared.Verdict.the-variants.{Accepted, Refused}
 use Rattle.calls.proofs.Accepted.{Passed, Map-passed, map-passed, bounded, Step-list, step-list}
@@ -51,17 +50,17 @@ module _ (call : Map-call) {verdict : Verdict} (judged : verdict ≡ map-verdict
 
     -- after the words of the nodes are built
     module _ {ws : List ℕ} {nodes : ℕ} (built : Noded (call .grid) (call .attribute) (call .picture) ws nodes) where
-      pub passes-ask : Ready (call .picture) (call .steps) nodes ws (call .residue) (call .index)
-      passes-ask =
+      pub passes-ask : ((q : ℕ) → grey (call .picture) q < 256) → Ready (call .picture) (call .steps) nodes ws (call .residue) (call .index)
+      passes-ask bytes =
           let list : Step-list (call .steps) = step-list (call .steps) (passed .steps) in
           record {
             given =
                 record {
                   few = list .not-more;
                   rise = list .rises;
-                  size = refl;
                   ws-size = built .buildable .words ∙ ap (λ (n : ℕ). words-a-pixel * n) (sym (common .a-byte-each));
-                  climb = nodes-climbable (adjacent-symmetric (call .grid)) (built .nodes);
+                  level = _;
+                  climb = nodes-climbable (built .nodes) bytes;
                 };
             residues-size = passed .residue ∙ sym (common .a-byte-each);
             indices-size = passed .index ∙ sym (common .a-byte-each);

@@ -10,10 +10,10 @@ use Rattle.map_passes.proofs.settle_nodes.Statement.{statement}
 use Rattle.map_passes.proofs.settle_nodes.Tie as tie
 
 abbrev Inv-loop : tie.InvT-loop
-Inv-loop picture steps table n nodes ws₀ i₀ ws i = (i ≤ nodes) × Settled-from n nodes picture steps ws₀ ws i
+Inv-loop steps table n nodes ws₀ i₀ ws i = (i ≤ nodes) × Settled-from n nodes steps ws₀ ws i
 
 abbrev μ-loop : tie.MeasureT-loop
-μ-loop picture steps table n nodes ws₀ i₀ ws i = i
+μ-loop steps table n nodes ws₀ i₀ ws i = i
 
 loop-holds : tie.Need-loop-holds Inv-loop μ-loop
 loop-holds c = (omega arith, visit-start)
@@ -24,14 +24,13 @@ sub-i c = search needs
 visit-requires : tie.Need-visit-requires Inv-loop μ-loop
 visit-requires c κs =
     let at-loop = c .before .before in
-    let lent = at-loop .before .before .before in (
+    let start = at-loop .before .before .before in (
       visit-asked
-          (lent .before .pre .0)
-          (λ q. lent .shared-slice-known .given q .fits)
+          (start .pre .0)
           (c .before .loop-test .taken)
           (at-loop .loop .inv .0)
           (at-loop .loop .inv .1),
-      lent .before .pre .1,
+      start .pre .1,
     )
 
 loop-less : tie.Need-loop-less Inv-loop μ-loop
@@ -40,11 +39,10 @@ loop-less c = omega arith
 loop-again : tie.Need-loop-again Inv-loop μ-loop
 loop-again c =
     let at-loop = c .before .before .before .before .before in
-    let lent = at-loop .before .before .before in (
+    let start = at-loop .before .before .before in (
       omega arith,
       visit-more
-          (lent .before .pre .0)
-          (λ q. lent .shared-slice-known .given q .fits)
+          (start .pre .0)
           (c .before .before .before .before .loop-test .taken)
           (at-loop .loop .inv .0)
           (at-loop .loop .inv .1)
@@ -55,7 +53,7 @@ same-length : tie.Need-same-length Inv-loop μ-loop
 same-length c = c .before .loop .inv .1 .kept .words
 
 returns : tie.Need-returns Inv-loop μ-loop
-returns c = subst (Settled-from _ _ _ _ _ _) (omega arith) (c .before .loop .inv .1)
+returns c = subst (Settled-from _ _ _ _ _) (omega arith) (c .before .loop .inv .1)
 
 pub settle-nodes-spec : {M : Type 1} → statement M
 settle-nodes-spec =

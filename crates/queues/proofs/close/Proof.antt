@@ -3,9 +3,9 @@ use mathlib.Core.Logic.{inl, inr}
 use mathlib.Core.Path.{refl}
 use native.Mathlib.Omega.{arith}
 use lib.ListN.{length-set}
-use borrow.Author.Needs.{needs}
 use Rattle.queues.specs.Queues.{NextOpen}
 use Rattle.queues.proofs.Parts.{found, found-none, level-fits, next-small, shuts, shuts-below}
+use borrow.Author.Needs.{needs}
 use Rattle.queues.proofs.close.Statement.{statement}
 use Rattle.queues.proofs.close.Tie as tie
 
@@ -70,14 +70,17 @@ add-opened-3 c = search needs
 element-write-opened-3 : tie.Need-element-write-opened-3
 element-write-opened-3 c = search needs
 
+mul-ws : tie.Need-mul-ws
+mul-ws c = search needs
+
 cast-ws : tie.Need-cast-ws
 cast-ws c = search needs
 
 add-ws : tie.Need-add-ws
 add-ws c = search needs
 
-mul-ws : tie.Need-mul-ws
-mul-ws c = search needs
+mul-ws-2 : tie.Need-mul-ws-2
+mul-ws-2 c = search needs
 
 slice-write-ws : tie.Need-slice-write-ws
 slice-write-ws c = search needs
@@ -85,11 +88,11 @@ slice-write-ws c = search needs
 cast-ws-2 : tie.Need-cast-ws-2
 cast-ws-2 c = search needs
 
-mul-ws-2 : tie.Need-mul-ws-2
-mul-ws-2 c = search needs
-
 mul-ws-3 : tie.Need-mul-ws-3
 mul-ws-3 c = search needs
+
+mul-ws-4 : tie.Need-mul-ws-4
+mul-ws-4 c = search needs
 
 add-ws-2 : tie.Need-add-ws-2
 add-ws-2 c = search needs
@@ -97,8 +100,8 @@ add-ws-2 c = search needs
 add-ws-3 : tie.Need-add-ws-3
 add-ws-3 c = search needs
 
-mul-ws-4 : tie.Need-mul-ws-4
-mul-ws-4 c = search needs
+mul-ws-5 : tie.Need-mul-ws-5
+mul-ws-5 c = search needs
 
 slice-write-ws-2 : tie.Need-slice-write-ws-2
 slice-write-ws-2 c =
@@ -112,34 +115,59 @@ returns : tie.Need-returns
 returns c =
     let below = c .before .before .before .before in
     let at = start below in
-    inr (refl, found-none (below .open-below .ensures) (c .if1 .taken) (at .pre .level), shuts (at .pre) _)
-
-mul-ws-5 : tie.Need-mul-ws-5
-mul-ws-5 c = omega (arith, next c .lower, start (searched c) .pre .level)
-
-element-copy-out-ws : tie.Need-element-copy-out-ws
-element-copy-out-ws c = omega (arith, next c .lower, start (searched c) .pre .level)
-
-cast-ws-3 : tie.Need-cast-ws-3
-cast-ws-3 c = omega (arith, next-small (start (searched (c .before)) .pre) (next (c .before)))
+    inr (
+      refl,
+      found-none (below .open-below .ensures) (c .if1 .taken) (at .pre .level),
+      shuts (at .pre) _ (omega arith) (omega arith),
+    )
 
 mul-ws-6 : tie.Need-mul-ws-6
 mul-ws-6 c = search needs
 
-mul-ws-7 : tie.Need-mul-ws-7
-mul-ws-7 c = search needs
+sub-ws : tie.Need-sub-ws
+sub-ws c = omega (arith, next c .lower)
 
 add-ws-4 : tie.Need-add-ws-4
 add-ws-4 c = search needs
 
+cast-ws-3 : tie.Need-cast-ws-3
+cast-ws-3 c = search needs
+
 add-ws-5 : tie.Need-add-ws-5
 add-ws-5 c = search needs
 
-mul-ws-8 : tie.Need-mul-ws-8
-mul-ws-8 c = search needs
+mul-ws-7 : tie.Need-mul-ws-7
+mul-ws-7 c = search needs
 
 slice-write-ws-3 : tie.Need-slice-write-ws-3
-slice-write-ws-3 c =
+slice-write-ws-3 c = search needs
+
+mul-ws-8 : tie.Need-mul-ws-8
+mul-ws-8 c = omega (arith, next c .lower, start (searched c) .pre .level)
+
+element-copy-out-ws : tie.Need-element-copy-out-ws
+element-copy-out-ws c = omega (arith, next c .lower, start (searched c) .pre .level)
+
+cast-ws-4 : tie.Need-cast-ws-4
+cast-ws-4 c = omega (arith, next-small (start (searched (c .before)) .pre) (next (c .before)))
+
+mul-ws-9 : tie.Need-mul-ws-9
+mul-ws-9 c = search needs
+
+mul-ws-10 : tie.Need-mul-ws-10
+mul-ws-10 c = search needs
+
+add-ws-6 : tie.Need-add-ws-6
+add-ws-6 c = search needs
+
+add-ws-7 : tie.Need-add-ws-7
+add-ws-7 c = search needs
+
+mul-ws-11 : tie.Need-mul-ws-11
+mul-ws-11 c = search needs
+
+slice-write-ws-4 : tie.Need-slice-write-ws-4
+slice-write-ws-4 c =
     let at = start (searched (c .before)) in
     simp length-set (omega (arith, at .pre .sized .words, at .pre .open-here))
 
@@ -169,27 +197,35 @@ close-spec =
     element-write-opened-2
     add-opened-3
     element-write-opened-3
+    mul-ws
     cast-ws
     add-ws
-    mul-ws
+    mul-ws-2
     slice-write-ws
     cast-ws-2
-    mul-ws-2
     mul-ws-3
+    mul-ws-4
     add-ws-2
     add-ws-3
-    mul-ws-4
+    mul-ws-5
     slice-write-ws-2
     same-length
     returns
-    mul-ws-5
-    element-copy-out-ws
-    cast-ws-3
     mul-ws-6
-    mul-ws-7
+    sub-ws
     add-ws-4
+    cast-ws-3
     add-ws-5
-    mul-ws-8
+    mul-ws-7
     slice-write-ws-3
+    mul-ws-8
+    element-copy-out-ws
+    cast-ws-4
+    mul-ws-9
+    mul-ws-10
+    add-ws-6
+    add-ws-7
+    mul-ws-11
+    slice-write-ws-4
     same-length-2
     returns-2)

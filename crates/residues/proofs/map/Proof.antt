@@ -85,7 +85,10 @@ write-maps-requires c κs =
     let built = c .before .before .before .before .before in
     let told = built .before .before in
     let at = told .before .before in
+    let named = at .before .before .before .before .before .before .before .before in
+    let lent = named .before .before .before .before .before in
     passes-ask (call at) (judged at) (told .enum-told .given .1) (built .build-nodes .ensures)
+    (λ q. lent .shared-slice-known .given q .fits)
 
 write-ordered-requires : tie.Need-write-ordered-requires
 write-ordered-requires c κs =
