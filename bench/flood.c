@@ -1,4 +1,7 @@
-/* Flooding with level queues: each pixel is queued once in the run of its level, each node closed once. */
+/*
+ * Flooding with level queues: each pixel is queued in the run of its level or takes the place of the one before it there, and each node is
+ * closed once.
+ */
 #include "bench.h"
 
 typedef struct {
@@ -23,24 +26,40 @@ static void level_runs(flood_t *f) {
     }
 }
 
-/* Puts q at the end of the run of its level; its number is that of the open node there, or the next. */
-static inline void push(flood_t *f, uint32_t q, int l) {
-    uint32_t k = f->opened[l];
-    if (k == f->n) {
-        k = f->opened[l] = f->taken++;
-        f->open[l / 64] |= (uint64_t)1 << l % 64;
-    }
+/* The next number, for a level at which no node is open. */
+static inline uint32_t next_number(flood_t *f, int l) {
+    f->open[l / 64] |= (uint64_t)1 << l % 64;
+    return f->opened[l] = f->taken++;
+}
+
+/* Puts q, of number k, at the end of the run of its level. */
+static inline void push(flood_t *f, uint32_t q, int l, uint32_t k) {
     f->numbers[q] = k;
     f->order[f->tails[l]++] = q;
 }
 
-/* Queues a neighbour that was not met. The answer is the level at which the flood goes on. */
+/* Queues a neighbour that was not met. The answer is the level at which the flood goes on. No node is open at a brighter level. */
 static inline int visit(flood_t *f, uint32_t q, int level) {
     if (f->numbers[q] != f->n)
         return level;
     int l = f->greys[q];
-    push(f, q, l);
-    return l > level ? l : level;
+    if (l > level) {
+        push(f, q, l, next_number(f, l));
+        return l;
+    }
+    push(f, q, l, f->opened[l] == f->n ? next_number(f, l) : f->opened[l]);
+    return level;
+}
+
+/* The neighbour q on the right, the last one: one of the same level that was not met takes the place of p, which is done. */
+static inline uint32_t visit_right(flood_t *f, uint32_t p, int level) {
+    uint32_t q = p + 1;
+    if (f->numbers[q] == f->n && f->greys[q] == level) {
+        f->numbers[q] = f->opened[level];
+        f->order[f->heads[level]] = q;
+        return q;
+    }
+    return visit(f, q, level) != level ? q : p;
 }
 
 /*
@@ -53,11 +72,9 @@ static inline uint32_t visit_around(flood_t *f, uint32_t p, int level) {
         return p - f->width;
     if (column > 0 && visit(f, p - 1, level) != level)
         return p - 1;
-    if (column + 1 < f->width && visit(f, p + 1, level) != level)
-        return p + 1;
     if (f->n - p > f->width && visit(f, p + f->width, level) != level)
         return p + f->width;
-    return p;
+    return column + 1 < f->width ? visit_right(f, p, level) : p;
 }
 
 /* The brightest open level below, 256 if there is none. */
@@ -95,7 +112,7 @@ uint32_t flood(const picture_t *picture, uint32_t *ws) {
         f.numbers[p] = n;
     uint32_t p = 0;
     int level = f.greys[0];
-    push(&f, 0, level);
+    push(&f, 0, level, next_number(&f, level));
     while (level != 256) {
         uint32_t next = visit_around(&f, p, level);
         if (next != p) {

@@ -76,8 +76,8 @@ pub fn flood(picture: &[u8], grid: Grid, ws: &mut [u32]) -> usize
     opened[257] = 0;
     opened[258] = 0;
     opened[259] = 0;
-    opened[260] = 0;
-    opened[261] = 0;
+    opened[queues::TAKEN] = 0;
+    opened[queues::CLOSED] = 0;
     levels::fill(&mut ws[0..n], n as u32);
     let level = picture[0] as usize;
     queues::push(n, 0, level, ws, &mut tails, &mut opened);
@@ -91,5 +91,5 @@ pub fn flood(picture: &[u8], grid: Grid, ws: &mut [u32]) -> usize
         &mut tails,
         &mut opened,
     );
-    opened[260]
+    opened[queues::TAKEN]
 }

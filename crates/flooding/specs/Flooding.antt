@@ -1,6 +1,7 @@
 -- What the flood keeps true while it runs, and what it leaves: parents, for which numbers of nodes are stored. A state is five functions: of
--- a position (its parent), of a place in the runs (the pixel met there), and of a level (the head and the tail of its queue, the root of
--- its open node). The number n stands for "not met" in a parent and for "no node is open" in a root.
+-- a position (its parent), of a place in the runs (the pixel there), and of a level (the head and the tail of its queue, the root of its
+-- open node). From the head of a level's queue to its tail stand the pixels that wait. The number n stands for "not met" in a parent and
+-- for "no node is open" in a root.
 use Prim.Native.Nat.{ℕ, suc, _+_, _≤_, _<_}
 use mathlib.Core.Bool.{true, _&&_}
 use mathlib.Core.Logic.{_⊎_}
@@ -18,7 +19,7 @@ pub data Joined (G : Adjacency) : ℕ → ℕ → Type 0 where
   back : {p q : ℕ} → Joined G p q → Joined G q p
   then : {p q r : ℕ} → Joined G p q → Joined G q r → Joined G p r
 
--- the parents, the runs of the pixels met, and for each level the head and the tail of its queue and the root of its open node
+-- the parents, the runs of the pixels that wait, and for each level the head and the tail of its queue and the root of its open node
 pub record State : Type 0 where
   pub par : ℕ → ℕ
   pub ord : ℕ → ℕ

@@ -10,7 +10,7 @@ pub record Sized (n : ℕ) (ws : List ℕ) : Type 0 where
   pub words : length ws ≡ words-a-pixel * n
   pub small : n ≤ most-pixels
 
--- part 3 holds the queues, for each level the run of its pixels that are met, and then the list of the representatives
+-- part 3 holds the queues, for each level a run with the pixels that wait, and then the list of the representatives
 abbrev pub order-of : ℕ → List ℕ → ℕ → ℕ
 order-of n ws i = getD ws (2 * n + i) 0
 

@@ -7,15 +7,20 @@ ghost use Rattle.queues.specs.Marks.{Marked, Highest};
 ghost use lib.ListN.{getD};
 ghost use Rattle.queues.specs.Queues.{Nextable, NextNamed, Nameable, Naming, Puttable, pushed-words, Fitting, Placing, Replaceable, Replacing, NextBelow, Closable, ClosedTo};
 
+// where the counts stand among the open nodes
+pub const TAKEN: usize = 260;
+
+pub const CLOSED: usize = 261;
+
 // Opens a node of level l, where none is open, under the next number.
 fn next_number(l: usize, opened: &mut [usize; 262]) -> usize
     requires { ⌜ Nextable l (now opened) ⌝ }
     ensures { λ k. ⌜ NextNamed l (now (opened .entry)) k (now (opened .exit)) ⌝ }
 {
-    let k = opened[260];
+    let k = opened[TAKEN];
     opened[l] = k;
     opened[256 + l / 64] = opened[256 + l / 64] | (1 << (l % 64));
-    opened[260] = k + 1;
+    opened[TAKEN] = k + 1;
     k
 }
 
@@ -123,10 +128,10 @@ pub fn close(n: usize, level: usize, ws: &mut [u32], opened: &mut [usize; 262]) 
 {
     let m = open_below(level, n, opened);
     let k = opened[level];
-    let i = opened[261];
+    let i = opened[CLOSED];
     opened[level] = n;
     opened[256 + level / 64] = opened[256 + level / 64] - (1 << (level % 64));
-    opened[261] = i + 1;
+    opened[CLOSED] = i + 1;
     if m == 256 {
         ws[n + i] = (k * 256) as u32;
         ws[3 * n + 3 * k + 1] = k as u32;

@@ -1,4 +1,5 @@
-// The visits: each neighbour of the pixel at the head of the current level that is not met is put into its queue.
+// The visits: each neighbour of the pixel at the head of the current level that is not met is put into its queue, or takes the place at the
+// head.
 ghost use mathlib.Core.Bool.{_&&_};
 ghost use mathlib.Core.Path.{_≡_};
 ghost use Prim.Native.Nat.{_%_, _<_};
@@ -114,8 +115,8 @@ fn unmet_at(picture: &[u8], q: usize, level: usize, ws: &[u32]) -> bool
 }
 
 // The neighbour right of p, the last one. Where it is not met and of the same level, p is done, and it takes p's place at the head of the
-// level: so the flood runs along a row, and the pixels that it queues stand together. The answer is the pixel at which it goes on, p
-// where it stays.
+// level: so the flood goes along a row, and the pixels below it wait in their order. The answer is the pixel at which the flood goes
+// on, p where it stays.
 fn visit_right(
     picture: &[u8],
     grid: Grid,
