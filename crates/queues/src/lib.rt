@@ -7,9 +7,10 @@ ghost use Rattle.queues.specs.Marks.{Marked, Highest};
 ghost use lib.ListN.{getD};
 ghost use Rattle.queues.specs.Queues.{Nextable, NextNamed, Nameable, Naming, Puttable, pushed-words, Fitting, Placing, Replaceable, Replacing, NextBelow, Closable, ClosedTo};
 
-// where the counts stand among the open nodes
+// Where the count of the numbers taken stands after the open nodes.
 pub const TAKEN: usize = 260;
 
+// Where the count of the closed nodes stands.
 pub const CLOSED: usize = 261;
 
 // Opens a node of level l, where none is open, under the next number.
