@@ -33,38 +33,59 @@ module _ (picture words : List ℕ) (n t : ℕ) where
   kept-within (up gone rest) zero more = absurd (omega arith)
   kept-within (up gone rest) (suc l) more = up gone (kept-within rest l (omega arith))
 
-  pub pass-start : (output : List ℕ) → Climbable picture words n → length output ≡ n → Pass picture words n t 0 output
-  pass-start output climbable entries =
-      record { climbable = climbable; entries = entries; reached = omega arith; opened = λ p below. absurd (omega arith) }
+  pub pass-start : (output : List ℕ) → Climbable picture words n → length output ≡ n → 0 < t → Pass picture words n t 0 output
+  pass-start output climbable entries positive =
+      record {
+        climbable = climbable;
+        positive = positive;
+        entries = entries;
+        reached = omega arith;
+        opened = λ p below. absurd (omega arith);
+      }
 
   module _ (p : ℕ) (output : List ℕ) (pass : Pass picture words n t p output) (below : p < n) where
-    -- a pixel that is no representative has the new grey of its representative, which is written
-    pub pass-own : attribute words n p ≡ 0
-        → (parent words p < length output) × Opened-to picture words n t p (grey output (parent words p))
-    pass-own none =
-        let before : parent words p < p = pass .climbable .lowest p below none in (
-          omega (arith, pass .entries),
-          record {
-            own = λ e. pass .opened (parent words p) before .itself (pass .climbable .leads p below);
-            itself = λ representative. absurd (representative none);
-          },
-        )
-
-    -- a representative starts a climb
-    pub pass-from : Representative words n p → From picture words n p
-    pass-from representative = record { climbable = pass .climbable; below = below; representative = representative }
-
     -- the levels of bytes fall at most 255 times
     pub pass-itself : (v : ℕ) → Representative words n p → grey picture p < 256 → Kept picture words n t (grey picture p) p v
         → Opened-to picture words n t p v
     pass-itself v representative byte found =
-        record { own = λ none. absurd (representative none); itself = λ e. kept-within found _ (omega arith) }
+        record { own = λ none. absurd (representative none); itself = λ e. record { found = found; bounded = omega arith } }
+
+    -- a node that is kept has its grey; it has a representative, as the threshold is above 0
+    pub pass-kept : t ≤ attribute words n p → grey picture p < 256 → Opened-to picture words n t p (grey picture p)
+    pass-kept enough byte = pass-itself (grey picture p) (λ none. omega (arith, pass .positive)) byte (kept enough)
+
+    -- any other pixel has the new grey at its parent word, if that is written: one step more than from there
+    pub pass-parent :
+        attribute words n p < t → parent words p < p → grey picture p < 256
+        → (parent words p < length output) × Opened-to picture words n t p (grey output (parent words p))
+    pass-parent gone before byte =
+        let above = pass .opened (parent words p) before .itself (pass .climbable .leads p below) in (
+          omega (arith, pass .entries),
+          record {
+            own = λ e. above;
+            itself = λ representative.
+                let less : grey picture (parent words p) < grey picture p =
+                ⊎-elim (λ same. absurd (omega arith)) (λ l. l) (pass .climbable .falls p below representative)
+                in
+                record { found = kept-within (up gone (above .found)) _ less; bounded = omega arith };
+          },
+        )
+
+    -- where it is not, the pixel is a representative and starts a climb
+    pub pass-from : (parent words p < p → ⊥) → From picture words n p
+    pass-from later =
+        record {
+          climbable = pass .climbable;
+          below = below;
+          representative = λ none. later (pass .climbable .lowest p below none);
+        }
 
     pub pass-more : (v : ℕ) → Opened-to picture words n t p v → Pass picture words n t (p + 1) (set output p v)
     pass-more v found =
         let within : p < length output = omega (arith, pass .entries) in
         record {
           climbable = pass .climbable;
+          positive = pass .positive;
           entries = simp length-set (pass .entries);
           reached = omega arith;
           opened = λ q before. ⊎-elim

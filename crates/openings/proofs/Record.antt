@@ -77,9 +77,9 @@ module _ (n : ℕ) (adj : Adjacency) (symm : Symmetric adj) (attr : Positions �
     opened-to : (p v : ℕ) → p < n → Opened-to picture record-words n t p v → v ≡ opened n adj attr t (grey picture) p
     opened-to p v b found =
         ⊎-elim
-        (λ of. kept-opened (found .itself (λ none. omega (arith, of .above-zero))) (b, of .self))
+        (λ of. kept-opened (found .itself (λ none. omega (arith, of .above-zero)) .found) (b, of .self))
         (λ other.
-        kept-opened (found .own (other .is-zero)) (leads-self symm some reading p b)
+        kept-opened (found .own (other .is-zero) .found) (leads-self symm some reading p b)
         ∙ ap (opened n adj attr t (grey picture)) (other .is-own)
         ∙ sym
         (opened-own n adj symm (grey picture) (at-least attr t) (at-least-up n attr increasing t) p

@@ -48,10 +48,15 @@ pub data Kept (picture words : List ℕ) (n t : ℕ) : ℕ → ℕ → ℕ → T
 abbrev pub longest-climb : ℕ
 longest-climb = 255
 
+-- the grey v is found by a climb from the representative r, with no more steps than its level counts
+pub record Climbs-to (picture words : List ℕ) (n t r v : ℕ) : Type 0 where
+  pub found : Kept picture words n t (grey picture r) r v
+  pub bounded : grey picture r ≤ longest-climb
+
 -- the grey v of a pixel p is found by a climb from its representative
 pub record Opened-to (picture words : List ℕ) (n t p v : ℕ) : Type 0 where
-  pub own : attribute words n p ≡ 0 → Kept picture words n t longest-climb (parent words p) v
-  pub itself : Representative words n p → Kept picture words n t longest-climb p v
+  pub own : attribute words n p ≡ 0 → Climbs-to picture words n t (parent words p) v
+  pub itself : Representative words n p → Climbs-to picture words n t p v
 
 -- every position before k of the output has the grey that a climb finds
 abbrev pub Opened-before : List ℕ → List ℕ → ℕ → ℕ → ℕ → List ℕ → Type 0
@@ -61,9 +66,10 @@ Opened-before picture words n t k output = (p : ℕ) → p < k → Opened-to pic
 abbrev pub All-opened : List ℕ → List ℕ → ℕ → List ℕ → Type 0
 All-opened picture words t output = Opened-before picture words (length picture) t (length picture) output
 
--- the pass over the positions has come to k
+-- the pass over the positions, with a threshold above 0, has come to k
 pub record Pass (picture words : List ℕ) (n t k : ℕ) (output : List ℕ) : Type 0 where
   pub climbable : Climbable picture words n
+  pub positive : 0 < t
   pub entries : length output ≡ n
   pub reached : k ≤ n
   pub opened : Opened-before picture words n t k output

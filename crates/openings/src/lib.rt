@@ -25,15 +25,20 @@ fn climb(picture: &[u8], words: &[u32], n: usize, r: usize, threshold: u32) -> u
     climb(picture, words, n, parent, threshold)
 }
 
-// The new grey of `p`, where every position before it has its own: a representative climbs, any other pixel has its representative's.
+// The new grey of `p`, where every position before it has its own. The representative of a node that is kept has its grey. Of a node that goes it
+// has the new grey of its parent, and any other pixel has that of its representative: it is there where that one stands before `p`, and
+// else a climb finds it.
 fn new_grey(picture: &[u8], words: &[u32], n: usize, p: usize, threshold: u32, output: &[u8]) -> u8
     requires { ⌜ Pass (now picture) (now words) n threshold p (now output) ⌝ }
     requires { ⌜ p < n ⌝ }
     ensures { λ v. ⌜ Opened-to (now (picture .entry)) (now (words .entry)) n threshold p v ⌝ }
 {
-    if words[n + p] == 0 {
-        let representative = words[p] as usize;
-        return output[representative];
+    if threshold <= words[n + p] {
+        return picture[p];
+    }
+    let parent = words[p] as usize;
+    if parent < p {
+        return output[parent];
     }
     climb(picture, words, n, p, threshold)
 }
@@ -42,6 +47,7 @@ fn new_grey(picture: &[u8], words: &[u32], n: usize, p: usize, threshold: u32, o
 fn open_record(picture: &[u8], words: &[u32], threshold: u32, output: &mut [u8])
     requires { ⌜ Climbable (now picture) (now words) (length (now picture)) ⌝ }
     requires { ⌜ length (now output) ≡ length (now picture) ⌝ }
+    requires { ⌜ 0 < threshold ⌝ }
     ensures { λ r. ⌜ All-opened (now (picture .entry)) (now (words .entry)) threshold (now (output .exit)) ⌝ }
 {
     let n = picture.len();
