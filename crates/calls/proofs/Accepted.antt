@@ -20,6 +20,11 @@ use Rattle.calls.specs.Calls.{Build-call, build-tests, build-verdict, Op
 use Rattle.calls.specs.declared.Verdict.{Verdict}
 use Rattle.calls.specs.declared.Verdict.the-variants.{Accepted, Refused}
 
+-- a threshold is from 1 on
+pub threshold-some : (t : ℕ) → threshold-good t ≡ true → 1 ≤ t
+unfolding threshold-good
+threshold-some t good = leb-true 1 t (and-left (leb 1 t) _ good)
+
 -- a step list
 pub record Step-list (steps : List ℕ) : Type 0 where
   pub not-more : length steps ≤ most-steps

@@ -44,41 +44,37 @@ module _ (picture words : List ℕ) (n t : ℕ) where
       }
 
   module _ (p : ℕ) (output : List ℕ) (pass : Pass picture words n t p output) (below : p < n) where
+    -- a representative starts a climb
+    from-itself : Representative words n p → From picture words n p
+    from-itself representative = record { climbable = pass .climbable; below = below; representative = representative }
+
     -- the levels of bytes fall at most 255 times
-    pub pass-itself : (v : ℕ) → Representative words n p → grey picture p < 256 → Kept picture words n t (grey picture p) p v
+    pub pass-itself : (v : ℕ) → From picture words n p → grey picture p < 256 → Kept picture words n t (grey picture p) p v
         → Opened-to picture words n t p v
-    pass-itself v representative byte found =
-        record { own = λ none. absurd (representative none); itself = λ e. record { found = found; bounded = omega arith } }
+    pass-itself v from byte found =
+        record { own = λ none. absurd (from .representative none); itself = λ e. record { found = found; bounded = omega arith } }
 
-    -- a node that is kept has its grey; it has a representative, as the threshold is above 0
+    -- a node that is kept has its grey; its attribute word is not 0, as the threshold is above 0
     pub pass-kept : t ≤ attribute words n p → grey picture p < 256 → Opened-to picture words n t p (grey picture p)
-    pass-kept enough byte = pass-itself (grey picture p) (λ none. omega (arith, pass .positive)) byte (kept enough)
+    pass-kept enough byte =
+        pass-itself (grey picture p) (from-itself (λ none. omega (arith, pass .positive))) byte (kept enough)
 
-    -- any other pixel has the new grey at its parent word, if that is written: one step more than from there
+    -- any other pixel has the new grey at its parent word, if that is written; from a representative it is one step more than from there
     pub pass-parent :
         attribute words n p < t → parent words p < p → grey picture p < 256
-        → (parent words p < length output) × Opened-to picture words n t p (grey output (parent words p))
+        → Opened-to picture words n t p (grey output (parent words p))
     pass-parent gone before byte =
-        let above = pass .opened (parent words p) before .itself (pass .climbable .leads p below) in (
-          omega (arith, pass .entries),
-          record {
-            own = λ e. above;
-            itself = λ representative.
-                let less : grey picture (parent words p) < grey picture p =
-                ⊎-elim (λ same. absurd (omega arith)) (λ l. l) (pass .climbable .falls p below representative)
-                in
-                record { found = kept-within (up gone (above .found)) _ less; bounded = omega arith };
-          },
-        )
-
-    -- where it is not, the pixel is a representative and starts a climb
-    pub pass-from : (parent words p < p → ⊥) → From picture words n p
-    pass-from later =
+        let above = pass .opened (parent words p) before .itself (pass .climbable .leads p below) in
         record {
-          climbable = pass .climbable;
-          below = below;
-          representative = λ none. later (pass .climbable .lowest p below none);
+          own = λ e. above;
+          itself = λ representative.
+              let less = parent-falls picture words n p (from-itself representative) (λ same. omega arith) in
+              record { found = kept-within (up gone (above .found)) _ less; bounded = omega arith };
         }
+
+    -- where it is not, the pixel is a representative
+    pub pass-from : p ≤ parent words p → From picture words n p
+    pass-from later = from-itself (λ none. omega (arith, pass .climbable .lowest p below none))
 
     pub pass-more : (v : ℕ) → Opened-to picture words n t p v → Pass picture words n t (p + 1) (set output p v)
     pass-more v found =

@@ -1,13 +1,9 @@
 -- What an opening call answers and writes: refused, it leaves all as it was; accepted, the pass over the record of the picture opens it,
 -- under the neighbours and the attributes of the grid. Assumes nothing.
 use Prim.Native.Nat.{ℕ, _≤_, _<_}
-use mathlib.Core.Bool.{true}
 use mathlib.Core.List.{List}
 use mathlib.Core.Path.{_≡_, refl, sym, _∙_}
-use lib.Dec.{leb}
 use lib.ListN.{length}
-use borrow.Author.Tests.{leb-true}
-use Rattle.sets.proofs.Tests.{and-left}
 use Rattle.grid.specs.Pixels.{pixels}
 use Rattle.grid.specs.Neighbours.{adjacent}
 use Rattle.grid.specs.Attributes.{attribute}
@@ -15,18 +11,13 @@ use Rattle.grid.specs.declared.Grid.{Grid}
 use Rattle.grid.proofs.Attributes.{adjacent-symmetric, attribute-increasing, attribute-some}
 use Rattle.grid.proofs.Whole.{grid-whole}
 use Rattle.causes.specs.declared.Cause.{Cause}
-use Rattle.calls.specs.Judging.{threshold-good, verdict-numbers}
+use Rattle.calls.specs.Judging.{verdict-numbers}
 use Rattle.calls.specs.Calls.{grey, opened-picture, record-of, Open-call, open-verdict, open-workspace, open-output}
 use Rattle.calls.specs.declared.Verdict.{Verdict}
 use Rattle.calls.specs.declared.Verdict.the-variants.{Accepted, Refused}
-use Rattle.calls.proofs.Accepted.{Passed, Open-passed, open-passed, bounded}
+use Rattle.calls.proofs.Accepted.{Passed, Open-passed, open-passed, bounded, threshold-some}
 use Rattle.openings.specs.Climbing.{Climbable, Opened-before}
 use Rattle.openings.proofs.Record.{record-climbable, pass-opened}
-
--- "Opening at threshold t, from 1"
-threshold-positive : {t : ℕ} → threshold-good t ≡ true → 0 < t
-unfolding threshold-good
-threshold-positive {t} e = leb-true 1 t (and-left (leb 1 t) _ e)
 
 module _ (grid : Grid) (a : ℕ) (picture : List ℕ) where
   pub record-of-climbable : length picture ≡ pixels grid → Climbable picture (record-of grid a picture) (pixels grid)
@@ -83,7 +74,7 @@ module _ (call : Open-call) {verdict : Verdict} (judged : verdict ≡ open-verdi
         × (0 < call .threshold))
     pass-asks workspace built = (
       rw (built, common .a-byte-each) (record-of-climbable (call .grid) (call .attribute) (call .picture) (common .a-byte-each)),
-      (same-size, threshold-positive (passed .threshold)),
+      (same-size, threshold-some _ (passed .threshold)),
     )
 
     pub called-done : (workspace written : List ℕ) → workspace ≡ record-of (call .grid) (call .attribute) (call .picture)

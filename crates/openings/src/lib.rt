@@ -25,9 +25,9 @@ fn climb(picture: &[u8], words: &[u32], n: usize, r: usize, threshold: u32) -> u
     climb(picture, words, n, parent, threshold)
 }
 
-// The new grey of `p`, where every position before it has its own. The representative of a node that is kept has its grey. Of a node that goes it
-// has the new grey of its parent, and any other pixel has that of its representative: it is there where that one stands before `p`, and
-// else a climb finds it.
+// The new grey of `p`, where every position before it has its own. The representative of a node that is kept has its own grey. That of a node
+// that goes has the new grey of its parent, and any other pixel that of its representative: it is there where that position is before
+// `p`. Else, and for the root, a climb finds it.
 fn new_grey(picture: &[u8], words: &[u32], n: usize, p: usize, threshold: u32, output: &[u8]) -> u8
     requires { ⌜ Pass (now picture) (now words) n threshold p (now output) ⌝ }
     requires { ⌜ p < n ⌝ }

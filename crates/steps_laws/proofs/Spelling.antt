@@ -16,6 +16,7 @@ use Rattle.steps.specs.Lines.{ends-line, longer, lines, attribute-head, step-he
 use Rattle.causes.specs.Bounds.{top-threshold}
 use Rattle.calls.proofs.Accepted.{step-list}
 use Rattle.calls.specs.Judging.{attribute-good, threshold-good, all-good, steps-good}
+use Rattle.calls.proofs.Accepted.{threshold-some}
 use Rattle.steps.specs.Answer.{attribute-in, steps-in, parse-answer}
 use Rattle.steps_laws.specs.Spelled.{name-of, spelled-steps, spelled-file, Gives}
 use Rattle.steps.proofs.Splitting.{ended-some}
@@ -45,8 +46,7 @@ one-line-between low high (b ∷ s) h e =
 -- the line that spells a step
 module _ (t : ℕ) (good : threshold-good t ≡ true) where
   some : 1 ≤ t
-  unfolding threshold-good
-  some = leb-true 1 t (both-true (leb 1 t) (leb t top-threshold) good .0)
+  some = threshold-some t good
 
   pub threshold-fits : t < 10000000
   unfolding threshold-good

@@ -1,5 +1,6 @@
 -- `openings::open` meets its contract. Assumes nothing.
 use mathlib.Core.Path.{_≡_}
+use native.Mathlib.Omega.{arith}
 use denote.Ref.{now}
 use Rattle.causes.specs.declared.Cause.the-variants.{Steps, Workspace, Output}
 use Rattle.calls.specs.Calls.{Open-call, open-verdict}
@@ -73,7 +74,8 @@ open-record-requires : tie.Need-open-record-requires
 open-record-requires c κs =
     let built = c .before .before .before .before in
     let at = built .before .before .before .before in
-    pass-asks (call at) (judged at) (built .before .before .enum-told .given .1) _ (built .build-record .ensures .left)
+    let asks = pass-asks (call at) (judged at) (built .before .before .enum-told .given .1) _ (built .build-record .ensures .left) in
+    (asks .0, (asks .1 .0, omega (arith, asks .1 .1)))
 
 same-length : tie.Need-same-length
 same-length c = search needs
