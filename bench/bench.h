@@ -40,8 +40,8 @@ uint32_t flood_record(const picture_t *picture, uint32_t attribute, uint32_t *ws
 uint32_t join_record(const picture_t *picture, uint32_t attribute, uint32_t *ws);
 
 /*
- * Floods the picture: part 1 holds the number of each pixel's node, part 2 the numbers in the order of closing, and of the three words of
- * a node at 3n + 3 x number the second its parent's number. Answers the number of nodes.
+ * Floods the picture: part 1 holds the number of each pixel's node, part 2 in the order of closing each number x 256 + how far its level lies
+ * above its parent's, and of the three words of a node at 3n + 3 x number the second its parent's number. Answers the number of nodes.
  */
 uint32_t flood(const picture_t *picture, uint32_t *ws);
 

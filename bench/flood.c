@@ -63,8 +63,8 @@ static inline uint32_t visit_right(flood_t *f, uint32_t p, int level) {
 }
 
 /*
- * The neighbours of p, the pixel at the head of the level, until a brighter one moves the flood up. The answer is the pixel at which the
- * flood goes on, p where it stays.
+ * The neighbours of p, the pixel at the head of the level, until one moves the flood, up or along the row. The answer is the pixel at which
+ * the flood goes on, p where it stays.
  */
 static inline uint32_t visit_around(flood_t *f, uint32_t p, int level) {
     uint32_t column = p % f->width;

@@ -1,4 +1,4 @@
--- A step of the flood on the lists: a brighter neighbour moves it up, else the head moves on, and an empty level is closed.
+-- A step of the flood on the lists: a neighbour moves it up or along, else the head moves on, and an empty level is closed.
 use Prim.Native.Nat.{ℕ, suc, _+_, _*_, _-_, _≤_, _<_}
 use mathlib.Core.Bool.{true}
 use mathlib.Core.List.{List}
@@ -210,7 +210,7 @@ module _ {grid : Grid} {picture : List ℕ} {s : Lists} {l p : ℕ} where
                 more = spent-more ws″ opened″ (by-cases C (λ B. B .1 .shutting .num) (λ D. D .2 .shutting .num));
               }
 
--- one turn: the flood moves up, or leaves its pixel
+-- one turn: the flood moves up or along, or leaves its pixel
 module _ {grid : Grid} {picture : List ℕ} {s s' : Lists} {p q : ℕ} (U : VisitedAround grid picture s s' p q) where
   pub moves : (q ≡ p → ⊥) → spent (length picture) s < spent (length picture) s'
   moves ne = rw (U .same-heads) (omega (arith, U .raised ne))

@@ -28,8 +28,8 @@ fn leave(
     queues::close(picture.len(), level, ws, opened)
 }
 
-// The flood from the pixel named, at the head of the level named, to its end. It goes on at once at a brighter pixel that was not met,
-// else at the pixel at the head of the next level.
+// The flood from the pixel named, at the head of the level named, to its end. It goes on at once at a brighter pixel that was not met, or at
+// one that took the place at the head, else at the pixel at the head of the next level.
 fn run(
     picture: &[u8],
     grid: Grid,

@@ -16,7 +16,7 @@ use Rattle.flooding.proofs.Meeting.{tail-le, finished-kept, keep-met, k
 use Rattle.flooding.proofs.Named.{changed-once}
 
 -- the same state with other runs
-abbrev pub with-runs : State → (ℕ → ℕ) → (ℕ → ℕ) → (ℕ → ℕ) → State
+abbrev with-runs : State → (ℕ → ℕ) → (ℕ → ℕ) → (ℕ → ℕ) → State
 with-runs s ord head tail = record { par = s .par; ord = ord; head = head; tail = tail; root = s .root }
 
 -- a pixel waits at the place i of level k

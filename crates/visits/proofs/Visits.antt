@@ -1,4 +1,5 @@
--- A visit of a neighbour on the lists: nothing is stored where it is met, and where it is not it is put into its queue.
+-- A visit of a neighbour on the lists: nothing is stored where it is met, and where it is not it is put into its queue or takes the place at
+-- the head.
 use Prim.Native.Nat.{ℕ, suc, _≤_, _<_}
 use mathlib.Core.Bool.{true, _&&_, _||_}
 use mathlib.Core.List.{List}

@@ -150,8 +150,8 @@ fn visit_right(
     p
 }
 
-// The neighbours of p, the pixel at the head of the current level, until one is brighter and was not met: the flood moves up to it
-// at once. The answer is the pixel at which it goes on, p where all its neighbours are met.
+// The neighbours of p, the pixel at the head of the current level, until the flood moves: up to one that is brighter and was not met, or on to
+// the one on the right, which takes p's place. The answer is the pixel at which it goes on, p where it stays: all its neighbours are met then.
 pub fn visit_around(
     picture: &[u8],
     grid: Grid,

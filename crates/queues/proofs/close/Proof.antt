@@ -148,6 +148,9 @@ mul-ws-8 c = omega (arith, next c .lower, start (searched c) .pre .level)
 element-copy-out-ws : tie.Need-element-copy-out-ws
 element-copy-out-ws c = omega (arith, next c .lower, start (searched c) .pre .level)
 
+returns-2 : tie.Need-returns-2
+returns-2 c = inl (next (c .before), shuts-below (start (searched (c .before)) .pre) (next (c .before)))
+
 cast-ws-4 : tie.Need-cast-ws-4
 cast-ws-4 c = omega (arith, next-small (start (searched (c .before)) .pre) (next (c .before)))
 
@@ -173,9 +176,6 @@ slice-write-ws-4 c =
 
 same-length-2 : tie.Need-same-length-2
 same-length-2 c = search needs
-
-returns-2 : tie.Need-returns-2
-returns-2 c = inl (next (c .before), shuts-below (start (searched (c .before)) .pre) (next (c .before)))
 
 pub close-spec : {M : Type 1} → statement M
 close-spec =

@@ -29,7 +29,10 @@ same-length : tie.Need-same-length
 same-length c = search needs
 
 returns : tie.Need-returns
-returns c = rw (c .before .before .put .ensures) (placing (c .before .before .before .before .before .before .before .before .pre) (c .before .before .before .before .before .take-number .ensures))
+returns c =
+    let done = c .before .before in
+    let named = done .before .before .before in
+    rw (done .put .ensures) (placing (named .before .before .before .pre) (named .take-number .ensures))
 
 pub push-spec : {M : Type 1} → statement M
 push-spec =

@@ -23,13 +23,22 @@ element-write-tails : tie.Need-element-write-tails
 element-write-tails c = search needs
 
 put-requires : tie.Need-put-requires
-put-requires c κs = puttable (c .before .before .before .before .before .pre .0) (c .before .before .next-number .ensures ((c .before .before .before .before .before) .args .n) (c .before .before .before .before .before .pre .0 .nameable) (c .before .before .before .before .before .pre .1))
+put-requires c κs =
+    let named = c .before .before in
+    let start = named .before .before .before in
+    puttable (start .pre .0) (named .next-number .ensures (start .args .n) (start .pre .0 .nameable) (start .pre .1))
 
 same-length : tie.Need-same-length
 same-length c = search needs
 
 returns : tie.Need-returns
-returns c = rw (c .before .before .put .ensures) (placing (c .before .before .before .before .before .before .before .before .pre .0) (c .before .before .before .before .before .next-number .ensures ((c .before .before .before .before .before .before .before .before) .args .n) (c .before .before .before .before .before .before .before .before .pre .0 .nameable) (c .before .before .before .before .before .before .before .before .pre .1)))
+returns c =
+    let done = c .before .before in
+    let named = done .before .before .before in
+    let start = named .before .before .before in
+    rw
+    (done .put .ensures)
+    (placing (start .pre .0) (named .next-number .ensures (start .args .n) (start .pre .0 .nameable) (start .pre .1)))
 
 pub push-first-spec : {M : Type 1} → statement M
 push-first-spec =

@@ -26,22 +26,46 @@ cast-l : tie.Need-cast-l
 cast-l c = omega (arith, c .shared-slice-known2 .given ((c .before .before .before .before .before) .args .q))
 
 push-first-requires : tie.Need-push-first-requires
-push-first-requires c κs = (fits (c .before .before .before .before .before .before .before .before .before .pre) (c .before .before .before .before .before .if1 .left), not-open (c .before .before .before .before .before .before .before .before .before .pre) (c .before .before .before .if2 .taken))
+push-first-requires c κs =
+    let brighter = c .before .before .before in
+    let new = brighter .before .before in
+    let pre = new .before .before .before .before .pre in
+    (fits pre (new .if1 .left), not-open pre (brighter .if2 .taken))
 
 same-length : tie.Need-same-length
 same-length c = search needs
 
 returns-2 : tie.Need-returns-2
-returns-2 c = queued (c .before .before .before .before .before .before .before .before .before .before .before .before .pre) (c .before .before .before .before .before .before .before .before .if1 .left) (c .before .before .push-first .kept .1 .1 .1 .0) (c .before .before .push-first .ensures) (inl (c .before .before .before .before .before .before .if2 .taken, refl))
+returns-2 c =
+    let done = c .before .before in
+    let which = done .before .before .before .before in
+    let new = which .before .before in
+    queued
+    (new .before .before .before .before .pre)
+    (new .if1 .left)
+    (done .push-first .kept .1 .1 .1 .0)
+    (done .push-first .ensures)
+    (inl (which .if2 .taken, refl))
 
 push-requires : tie.Need-push-requires
-push-requires c κs = fits (c .before .before .before .before .before .before .before .before .before .pre) (c .before .before .before .before .before .if1 .left)
+push-requires c κs =
+    let new = c .before .before .before .before .before in
+    fits (new .before .before .before .before .pre) (new .if1 .left)
 
 same-length-2 : tie.Need-same-length-2
 same-length-2 c = search needs
 
 returns-3 : tie.Need-returns-3
-returns-3 c = queued (c .before .before .before .before .before .before .before .before .before .before .before .before .pre) (c .before .before .before .before .before .before .before .before .if1 .left) (c .before .before .push .kept .1 .1 .1 .0) (c .before .before .push .ensures) (inr (c .before .before .before .before .before .before .if2 .left, refl))
+returns-3 c =
+    let done = c .before .before in
+    let which = done .before .before .before .before in
+    let new = which .before .before in
+    queued
+    (new .before .before .before .before .pre)
+    (new .if1 .left)
+    (done .push .kept .1 .1 .1 .0)
+    (done .push .ensures)
+    (inr (which .if2 .left, refl))
 
 pub visit-spec : {M : Type 1} → statement M
 visit-spec =

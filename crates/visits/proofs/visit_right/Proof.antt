@@ -70,21 +70,6 @@ mul-head c = search needs
 element-copy-out-head : tie.Need-element-copy-out-head
 element-copy-out-head c = search needs
 
-replace-requires : tie.Need-replace-requires
-replace-requires c κs =
-    let taken = c .before .before .before in
-    let right = taken .before .before .before in
-    let at = start right in
-    replaceable
-    (at .pre .0)
-    (at .pre .1 .1)
-    (is-right (at .args .grid) (at .args .p))
-    (beside right)
-    (sym (taken .before .unmet-at .ensures) ∙ taken .if2 .taken)
-
-same-length : tie.Need-same-length
-same-length c = search needs
-
 returns-2 : tie.Need-returns-2
 returns-2 c =
     let done = c .before .before in
@@ -99,6 +84,21 @@ returns-2 c =
     (sym (taken .before .unmet-at .ensures) ∙ taken .if2 .taken)
     (done .replace .kept .1 .1 .1 .1 .0)
     (done .replace .ensures)
+
+replace-requires : tie.Need-replace-requires
+replace-requires c κs =
+    let taken = c .before .before .before in
+    let right = taken .before .before .before in
+    let at = start right in
+    replaceable
+    (at .pre .0)
+    (at .pre .1 .1)
+    (is-right (at .args .grid) (at .args .p))
+    (beside right)
+    (sym (taken .before .unmet-at .ensures) ∙ taken .if2 .taken)
+
+same-length : tie.Need-same-length
+same-length c = search needs
 
 visit-requires : tie.Need-visit-requires
 visit-requires c κs = beside (c .before .before .before .before .before .before)
