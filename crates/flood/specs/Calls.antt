@@ -16,7 +16,7 @@ use Rattle.visits.specs.Visits.{met-count, Ready, Standing}
 
 -- how many of the n pixels are met, and how far the heads have come
 abbrev pub spent : ℕ → Lists → ℕ
-spent n s = met-count n s + entry-sum (s .heads) 256
+spent n s = met-count n (s .words) + entry-sum (s .heads) 256
 
 -- the words of a workspace that the flood of a picture leaves, which has m nodes
 abbrev pub NumberedBy : Grid → List ℕ → List ℕ → ℕ → Type 0

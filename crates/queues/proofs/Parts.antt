@@ -16,7 +16,8 @@ use Rattle.levels.proofs.Counts.{by-cases}
 use Rattle.levels.proofs.Tables.{stored}
 use Rattle.flooding.specs.Numbers.{Numbering}
 use Rattle.queues.specs.Marks.{digit, mark}
-use Rattle.queues.specs.Queues.{numbers-of, Nextable, Nameable, Naming, Puttable, pushed-words, Fitting, Placing, Replaceable, Replacing, NoneOpen, NextOpen, NextBelow, Closable, Shut}
+use Rattle.queues.specs.Queues.{numbers-of, Nextable, Nameable, Naming, pushed-words, Appendable, Fitting, Placing}
+use Rattle.queues.specs.Queues.{Replaceable, Replacing, NoneOpen, NextOpen, NextBelow, Closable, Shut}
 use Rattle.queues.proofs.Marks.{set-here, set-there, bit-fits, clear-here, clear-there, one-shifted, remarked, remarked-wide, word-kept, number-stored, past-kept, number-kept, mark-opened, mark-closed, marks-kept}
 
 -- two stores, seen in a table whose entry x stands at place x of the words: an entry that both miss, and one that the first or the
@@ -209,10 +210,15 @@ number-small N M = by-cases (M .which) (λ o. omega arith) (λ f. omega (arith, 
 pub nextable : {n l : ℕ} {opened : List ℕ} → Nameable n l opened → getD opened l 0 ≡ n → Nextable l opened
 nextable N e = record { level = N .level; small = omega (arith, N .left e, N .small) }
 
-pub puttable :
+pub appendable :
     {n q l k : ℕ} {ws tails opened opened' : List ℕ} → Fitting n q l ws tails opened → Naming n l opened k opened'
-    → Puttable n q k (getD tails l 0) ws
-puttable F N = record { sized = F .sized; within = F .within; number = number-small (F .nameable) N; place = F .free }
+    → Appendable n q l k ws tails
+appendable F N =
+    record {
+      level = F .nameable .level;
+      wide-tails = F .wide-tails;
+      fits = record { sized = F .sized; within = F .within; number = number-small (F .nameable) N; place = F .free };
+    }
 
 -- the node of level l closed
 module _ {n l : ℕ} {ws opened : List ℕ} (C : Closable n ws opened l) where

@@ -71,11 +71,12 @@ pub record Naming (n l : ℕ) (opened : List ℕ) (k : ℕ) (opened' : List ℕ)
   pub wide : length opened' ≡ 262
   pub marks : Marked n opened'
 
--- a further number of level l can be counted, and what is taken then, if no node of the level was open
+-- a further number can be counted for level l
 pub record Nextable (l : ℕ) (opened : List ℕ) : Type 0 where
   pub level : l < 256
   pub small : taken-of opened < most-pixels
 
+-- where no node of level l was open, k is the next number
 abbrev pub NextNamed : ℕ → List ℕ → ℕ → List ℕ → Type 0
 NextNamed l opened k opened' = (n : ℕ) → Nameable n l opened → getD opened l 0 ≡ n → Naming n l opened k opened'
 
@@ -89,6 +90,12 @@ pub record Puttable (n q k t : ℕ) (ws : List ℕ) : Type 0 where
 -- the number k at pixel q, and q at the place t of the runs
 abbrev pub pushed-words : ℕ → List ℕ → ℕ → ℕ → ℕ → List ℕ
 pushed-words n ws q k t = set (set ws q k) (2 * n + t) q
+
+-- there is room for q, of number k, at the end of the run of level l
+pub record Appendable (n q l k : ℕ) (ws tails : List ℕ) : Type 0 where
+  pub level : l < 256
+  pub wide-tails : length tails ≡ 256
+  pub fits : Puttable n q k (getD tails l 0) ws
 
 -- there is room for q at the end of the run of level l, and a number for it
 pub record Fitting (n q l : ℕ) (ws tails opened : List ℕ) : Type 0 where

@@ -2,10 +2,11 @@
 // of the open nodes stand four words for the set of the open levels, one bit a level, how many numbers are taken, and how many nodes
 // are closed.
 ghost use mathlib.Core.Path.{_≡_};
-ghost use Prim.Native.Nat.{_<_};
+ghost use Prim.Native.Nat.{_+_, _<_};
 ghost use Rattle.queues.specs.Marks.{Marked, Highest};
-ghost use lib.ListN.{getD};
-ghost use Rattle.queues.specs.Queues.{Nextable, NextNamed, Nameable, Naming, Puttable, pushed-words, Fitting, Placing, Replaceable, Replacing, NextBelow, Closable, ClosedTo};
+ghost use lib.ListN.{getD, set};
+ghost use Rattle.queues.specs.Queues.{Nextable, NextNamed, Nameable, Naming, Puttable, pushed-words, Appendable, Fitting, Placing};
+ghost use Rattle.queues.specs.Queues.{Replaceable, Replacing, NextBelow, Closable, ClosedTo};
 
 // Where the count of the numbers taken stands after the open nodes.
 pub const TAKEN: usize = 260;
@@ -46,6 +47,17 @@ fn put(n: usize, q: usize, k: usize, t: usize, ws: &mut [u32])
     ws[2 * n + t] = q as u32;
 }
 
+// Puts the pixel q, of number k, at the end of the run of level l.
+fn append(n: usize, q: usize, l: usize, k: usize, ws: &mut [u32], tails: &mut [usize; 256])
+    requires { ⌜ Appendable n q l k (now ws) (now tails) ⌝ }
+    ensures words { λ _. ⌜ now (ws .exit) ≡ pushed-words n (now (ws .entry)) q k (getD (now (tails .entry)) l 0) ⌝ }
+    ensures tails { λ _. ⌜ now (tails .exit) ≡ set (now (tails .entry)) l (getD (now (tails .entry)) l 0 + 1) ⌝ }
+{
+    let t = tails[l];
+    tails[l] = t + 1;
+    put(n, q, k, t, ws);
+}
+
 // Puts q at the end of the run of level l, and notes the number of its node.
 pub fn push(
     n: usize,
@@ -59,9 +71,7 @@ pub fn push(
     ensures { λ _. ⌜ Placing n q l (now (ws .entry)) (now (tails .entry)) (now (opened .entry)) (now (ws .exit)) (now (tails .exit)) (now (opened .exit)) ⌝ }
 {
     let k = take_number(n, l, opened);
-    let t = tails[l];
-    tails[l] = t + 1;
-    put(n, q, k, t, ws);
+    append(n, q, l, k, ws, tails);
 }
 
 // The same where no node of level l is open, so that nothing need be asked.
@@ -78,12 +88,11 @@ pub fn push_first(
     ensures { λ _. ⌜ Placing n q l (now (ws .entry)) (now (tails .entry)) (now (opened .entry)) (now (ws .exit)) (now (tails .exit)) (now (opened .exit)) ⌝ }
 {
     let k = next_number(l, opened);
-    let t = tails[l];
-    tails[l] = t + 1;
-    put(n, q, k, t, ws);
+    append(n, q, l, k, ws, tails);
 }
 
-// Puts q at the place t of the run of level l, at which a node is open, in place of the pixel that stands there.
+// Puts q at the place t of the run of level l, at which a node is open, in place of the pixel that stands there, and notes the number of that
+// node.
 pub fn replace(n: usize, q: usize, l: usize, t: usize, ws: &mut [u32], opened: &[usize; 262])
     requires { ⌜ Replaceable n q l t (now ws) (now opened) ⌝ }
     ensures { λ _. ⌜ Replacing n q l t (now (ws .entry)) (now (opened .entry)) (now (ws .exit)) ⌝ }

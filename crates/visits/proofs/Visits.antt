@@ -1,7 +1,7 @@
 -- A visit of a neighbour on the lists: nothing is stored where it is met, and where it is not it is put into its queue or takes the place at
 -- the head.
 use Prim.Native.Nat.{ℕ, suc, _≤_, _<_}
-use mathlib.Core.Bool.{true, _&&_, _||_}
+use mathlib.Core.Bool.{true, _||_}
 use mathlib.Core.List.{List}
 use mathlib.Core.Logic.{_⊎_}
 use mathlib.Core.Path.{_≡_, refl, sym, ap, _∙_}
@@ -9,7 +9,7 @@ use native.Mathlib.Omega.{arith}
 use lib.Dec.{eqb, ltb}
 use lib.ListN.{getD, length}
 use borrow.Author.Tests.{eqb-true, eq-eqb, lt-ltb, le-ltb}
-use Rattle.sets.specs.Sets.{Positions, count}
+use Rattle.sets.specs.Sets.{Positions}
 use Rattle.sets.proofs.Tests.{and-left, and-right, or-cases, or-right}
 use Rattle.grid.specs.Neighbours.{adjacent}
 use Rattle.grid.specs.declared.Grid.{Grid}
@@ -23,8 +23,8 @@ use Rattle.flooding.proofs.Meeting.{met-sound, met-at, met-ord, tail-le, tail-l
 use Rattle.flooding.proofs.Following.{followed-sound, followed-at}
 use Rattle.flooding.proofs.Named.{turned-back, count-stored}
 use Rattle.flooding.proofs.Numbers.{taken-fits, pushed-number-fits, open-number, open-root, Renamed, named-pushed}
-use Rattle.queues.specs.Queues.{Lists, lists, numbers-of, state-of, Fitting, Placing, Replaceable, Replacing}
-use Rattle.visits.specs.Visits.{head-pixel, Ready, Standing, StandsAt, Visiting, Visited, Met-but, VisitedAround}
+use Rattle.queues.specs.Queues.{Lists, lists, numbers-of, state-of, Nameable, Fitting, Placing, Replaceable, Replacing}
+use Rattle.visits.specs.Visits.{head-pixel, Ready, Standing, StandsAt, Visiting, Visited, met-count, unmet-at, Met-but, VisitedAround}
 
 -- a pixel in its queue, and the parents and roots that the numbers stand for then, are a step of the flood
 pub pushes :
@@ -47,7 +47,7 @@ pushes heads P N =
 one-more-met :
     {n q : ℕ} (ws ws' : List ℕ) → Changed n (number-at ws) (number-at ws') q (number-at ws' q) → q < n → number-at ws q ≡ n
     → number-at ws' q < n
-    → count n (λ (x : ℕ). ltb (number-at ws' x) n) ≡ suc (count n (λ (x : ℕ). ltb (number-at ws x) n))
+    → met-count n ws' ≡ suc (met-count n ws)
 one-more-met {n} {q} ws ws' C h new fits =
     count-stored n (λ (k : ℕ). ltb k n) (turned-back C) h (lt-ltb (number-at ws' q) n fits) (le-ltb (number-at ws q) n (omega arith))
 
@@ -195,6 +195,20 @@ module _ {grid : Grid} {picture : List ℕ} {s : Lists} where
       {l : ℕ} (R : Ready grid picture s l) → (k : ℕ) → k < 256 → R .root k < length picture → grey picture (R .root k) ≡ k
   root-greys R k h o = R .sound .open-root k h o .grey
 
+  -- while a pixel is not met, there is a number for it at any level
+  nameable-for :
+      {l k q : ℕ} → Ready grid picture s l → k < 256 → q < length picture → number-at (s .words) q ≡ length picture
+      → Nameable (length picture) k (s .opened)
+  nameable-for {k = k} R level in-q new =
+      record {
+        small = R .sized .small;
+        level = level;
+        held = R .named .opens k level;
+        left = λ e. taken-fits (R .named) in-q new;
+        wide = R .wide-opened;
+        marks = R .marks;
+      }
+
   module _ {l q : ℕ} (U : Visiting grid picture s l q) where
     abbrev R : Ready grid picture s l
     R = U .ready
@@ -229,15 +243,7 @@ module _ {grid : Grid} {picture : List ℕ} {s : Lists} where
             within = U .within;
             free = tail-lt (R .sound) (R .bytes q) (U .within) unmet;
             wide-tails = R .wide-tails;
-            nameable =
-                record {
-                  small = R .sized .small;
-                  level = R .bytes q;
-                  held = R .named .opens (grey picture q) (R .bytes q);
-                  left = λ e. taken-fits (R .named) (U .within) new;
-                  wide = R .wide-opened;
-                  marks = R .marks;
-                };
+            nameable = nameable-for R (R .bytes q) (U .within) new;
           }
 
       module _ {ws' tails' opened' : List ℕ} (same-length : length ws' ≡ length (s .words))
@@ -308,7 +314,7 @@ module _ {grid : Grid} {picture : List ℕ} {s : Lists} where
 -- q, the neighbour of p on a side that has no other pixel, is not met and of p's level: it takes p's place at the head
 module _ {grid : Grid} {picture : List ℕ} {s : Lists} {l p q : ℕ} {side : Positions} (S : Standing grid picture s l p)
     (others : Met-but grid picture s p side) (only : (x : ℕ) → side x ≡ true → x ≡ q) (U : Visiting grid picture s l q)
-    (fresh : eqb (number-at (s .words) q) (length picture) && eqb (grey picture q) l ≡ true)
+    (fresh : unmet-at picture (s .words) l q ≡ true)
   where
     in-q : q < length picture
     in-q = U .within
@@ -337,15 +343,7 @@ module _ {grid : Grid} {picture : List ℕ} {s : Lists} {l p q : ℕ} {side : Po
           sized = ready .sized;
           within = in-q;
           place = head-in ready;
-          nameable =
-              record {
-                small = ready .sized .small;
-                level = in-l;
-                held = ready .named .opens l in-l;
-                left = λ e. taken-fits (ready .named) in-q new;
-                wide = ready .wide-opened;
-                marks = ready .marks;
-              };
+          nameable = nameable-for ready in-l in-q new;
           open-here = here-open;
         }
 

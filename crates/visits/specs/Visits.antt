@@ -1,12 +1,12 @@
 -- What the visits ask and leave, on the lists that they are lent.
 use Prim.Native.Nat.{ℕ, _≤_, _<_}
-use mathlib.Core.Bool.{true}
+use mathlib.Core.Bool.{Bool, true, _&&_}
 use mathlib.Core.List.{List}
 use mathlib.Core.Logic.{_⊎_}
 use mathlib.Core.Path.{_≡_}
 use denote.Ref.{RefT, now}
 use denote.Triple.Both.{Both}
-use lib.Dec.{ltb}
+use lib.Dec.{eqb, ltb}
 use lib.ListN.{getD, length}
 use Rattle.sets.specs.Sets.{Positions, count}
 use Rattle.grid.specs.Pixels.{pixels}
@@ -37,8 +37,12 @@ abbrev pub head-pixel : ℕ → Lists → ℕ → ℕ
 head-pixel n s l = order-of n (s .words) (getD (s .heads) l 0)
 
 -- how many of the n pixels are met
-abbrev pub met-count : ℕ → Lists → ℕ
-met-count n s = count n (λ (q : ℕ). ltb (number-at (s .words) q) n)
+abbrev pub met-count : ℕ → List ℕ → ℕ
+met-count n ws = count n (λ (q : ℕ). ltb (number-at ws q) n)
+
+-- the pixel q is not met and has the grey l
+abbrev pub unmet-at : List ℕ → List ℕ → ℕ → ℕ → Bool
+unmet-at picture ws l q = eqb (number-at ws q) (length picture) && eqb (grey picture q) l
 
 -- the flood of a picture stands at level l: the numbers stand for parents and roots, which are not stored, and those with the queues for a
 -- state of the flood
@@ -93,8 +97,8 @@ pub record Visited (grid : Grid) (picture : List ℕ) (s s' : Lists) (l r : ℕ)
   pub same-heads : s' .heads ≡ s .heads
   pub same-head : head-pixel (length picture) s' l ≡ head-pixel (length picture) s l
   pub kept : (x : ℕ) → x < length picture → number-at (s .words) x < length picture → number-at (s' .words) x < length picture
-  pub more : met-count (length picture) s ≤ met-count (length picture) s'
-  pub raised : (r ≡ l → ⊥) → met-count (length picture) s < met-count (length picture) s'
+  pub more : met-count (length picture) (s .words) ≤ met-count (length picture) (s' .words)
+  pub raised : (r ≡ l → ⊥) → met-count (length picture) (s .words) < met-count (length picture) (s' .words)
   pub met : r ≡ l → (x : ℕ) → x < length picture → side x ≡ true → number-at (s' .words) x < length picture
   pub to : (r ≡ l → ⊥) → side (head-pixel (length picture) s' r) ≡ true
 
@@ -107,6 +111,6 @@ Met-but grid picture s p side =
 pub record VisitedAround (grid : Grid) (picture : List ℕ) (s s' : Lists) (p q : ℕ) : Type 0 where
   pub stands : StandsAt grid picture s' q
   pub same-heads : s' .heads ≡ s .heads
-  pub more : met-count (length picture) s ≤ met-count (length picture) s'
-  pub raised : (q ≡ p → ⊥) → met-count (length picture) s < met-count (length picture) s'
+  pub more : met-count (length picture) (s .words) ≤ met-count (length picture) (s' .words)
+  pub raised : (q ≡ p → ⊥) → met-count (length picture) (s .words) < met-count (length picture) (s' .words)
   pub met : q ≡ p → (x : ℕ) → x < length picture → adjacent grid p x ≡ true → number-at (s' .words) x < length picture

@@ -1,13 +1,11 @@
 // The visits: each neighbour of the pixel at the head of the current level that is not met is put into its queue, or takes the place at the
 // head.
-ghost use mathlib.Core.Bool.{_&&_};
 ghost use mathlib.Core.Path.{_≡_};
 ghost use Prim.Native.Nat.{_%_, _<_};
 ghost use lib.Dec.{eqb};
 ghost use lib.ListN.{length};
-ghost use Rattle.levels.specs.Levels.{grey};
-ghost use Rattle.levels.specs.Workspace.{Sized, number-at};
-ghost use Rattle.visits.specs.Visits.{held, at-entry, at-exit, Standing, Visiting, above, left-of, right-of, below, Visited, Met-but, VisitedAround};
+ghost use Rattle.levels.specs.Workspace.{Sized};
+ghost use Rattle.visits.specs.Visits.{held, at-entry, at-exit, Standing, Visiting, above, left-of, right-of, below, Visited, unmet-at, Met-but, VisitedAround};
 use grid::Grid;
 
 // Visits the pixel q, a neighbour of the one at the head of the current level: it is put into its queue unless it is met. The answer is
@@ -106,7 +104,7 @@ fn visit_left(
 fn unmet_at(picture: &[u8], q: usize, level: usize, ws: &[u32]) -> bool
     requires { ⌜ Sized (length (now picture)) (now ws) ⌝ }
     requires { ⌜ q < length (now picture) ⌝ }
-    ensures { λ r. ⌜ r ≡ eqb (number-at (now (ws .entry)) q) (length (now (picture .entry))) && eqb (grey (now (picture .entry)) q) level ⌝ }
+    ensures { λ r. ⌜ r ≡ unmet-at (now (picture .entry)) (now (ws .entry)) level q ⌝ }
 {
     if ws[q] as usize != picture.len() {
         return false;
