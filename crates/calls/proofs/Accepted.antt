@@ -76,7 +76,7 @@ pub build-passed : (call : Build-call) → build-verdict call ≡ Accepted → P
 unfolding All-hold
 build-passed call ok =
     let h = all-hold (build-tests call) ok in
-    record { sides = h .0; a-byte-each = eqb-true _ _ (h .1 .0); words-each = eqb-true _ _ (h .1 .1 .1 .0) }
+    record { sides = h .0; a-byte-each = eqb-true _ _ (h .1 .0); words-each = eqb-true _ _ (h .1 .1 .1 .1 .0) }
 
 pub record Open-passed (call : Open-call) : Type 0 where
   pub common : Passed (call .grid) (length (call .picture)) (length (call .workspace))
@@ -87,7 +87,7 @@ pub open-passed : (call : Open-call) → open-verdict call ≡ Accepted → Open
 unfolding All-hold
 open-passed call ok =
     let h = all-hold (open-tests call) ok in
-    let named = h .1 .1 .1 in
+    let named = h .1 .1 .1 .1 in
     record {
       common = record { sides = h .0; a-byte-each = eqb-true _ _ (h .1 .0); words-each = eqb-true _ _ (named .1 .0) };
       threshold = named .0;
@@ -104,7 +104,7 @@ pub map-passed : (call : Map-call) → map-verdict call ≡ Accepted → Map-pas
 unfolding All-hold
 map-passed call ok =
     let h = all-hold (map-tests call) ok in
-    let named = h .1 .1 .1 in
+    let named = h .1 .1 .1 .1 in
     record {
       common = record { sides = h .0; a-byte-each = eqb-true _ _ (h .1 .0); words-each = eqb-true _ _ (named .1 .0) };
       steps = named .0;

@@ -11,13 +11,17 @@ use Rattle.causes.specs.Bounds.{top-threshold, most-steps, words-a-pixel}
 use Rattle.causes.specs.Causes.{number-of}
 use Rattle.causes.specs.Sides.{sides-fit}
 use Rattle.causes.specs.declared.Cause.{Cause}
-use Rattle.causes.specs.declared.Cause.the-variants.{Sides, PictureLength, Attribute, Workspace, Output}
+use Rattle.causes.specs.declared.Cause.the-variants.{Sides, PictureLength, Attribute, Neighbours, Workspace, Output}
 use Rattle.calls.specs.declared.Verdict.{Verdict}
 use Rattle.calls.specs.declared.Verdict.the-variants.{Accepted, Refused}
 
 -- "attribute not 1, 2 or 3"
 unfoldable pub attribute-good : ℕ → Bool
 attribute-good attribute = eqb attribute 1 || eqb attribute 2 || eqb attribute 3
+
+-- "neighbourhood neither 4 nor 8"
+unfoldable pub neighbours-good : ℕ → Bool
+neighbours-good neighbours = eqb neighbours 4 || eqb neighbours 8
 
 -- "threshold t, from 1 to 1,048,577"
 unfoldable pub threshold-good : ℕ → Bool
@@ -50,12 +54,13 @@ verdict-after verdict (test ∷ later) = verdict-after (also verdict test) later
 abbrev pub verdict-of : List Test → Verdict
 verdict-of tests = verdict-after Accepted tests
 
--- "Order for library calls on a picture: 1 to 6." The first three, by the grid, the picture's bytes and the attribute.
+-- "Order for library calls on a picture: 1 to 6", and "17 [..] after 3": the first four, by the grid, the picture's bytes and the attribute.
 abbrev pub picture-tests : Grid → ℕ → ℕ → List Test
 picture-tests grid bytes attribute =
     (sides-fit (grid .width) (grid .height), Sides)
     ∷ (eqb bytes (pixels grid), PictureLength)
     ∷ (attribute-good attribute, Attribute)
+    ∷ (neighbours-good (grid .neighbours), Neighbours)
     ∷ []
 
 -- 5, by the workspace's words

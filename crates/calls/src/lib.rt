@@ -4,7 +4,7 @@ ghost use mathlib.Core.Path.{_≡_};
 ghost use lib.Dec.{eqb};
 ghost use Rattle.causes.specs.Bounds.{words-a-pixel};
 ghost use Rattle.grid.specs.Pixels.{pixels};
-ghost use Rattle.calls.specs.Judging.{attribute-good, threshold-good, steps-good, also, verdict-of, picture-tests};
+ghost use Rattle.calls.specs.Judging.{attribute-good, neighbours-good, threshold-good, steps-good, also, verdict-of, picture-tests};
 use grid::Grid;
 
 // Whether a call is accepted, and if not the first cause that applies. This is also what an opening call and a map call answer.
@@ -46,6 +46,15 @@ pub fn attribute_good(attribute: u32) -> bool
         return true;
     }
     attribute == 3
+}
+
+pub fn neighbours_good(neighbours: u32) -> bool
+    ensures answer { λ r. ⌜ r ≡ neighbours-good neighbours ⌝ }
+{
+    if neighbours == 4 {
+        return true;
+    }
+    neighbours == 8
 }
 
 pub fn threshold_good(threshold: u32) -> bool
@@ -100,7 +109,7 @@ pub fn words_each(grid: Grid, words: usize) -> bool
     words / causes::WORDS_A_PIXEL == grid::pixels(grid)
 }
 
-// The tests that every call on a picture starts with: its sides, its picture's bytes and its attribute.
+// The tests that every call on a picture starts with: its sides, its picture's bytes, its attribute and its neighbourhood.
 pub fn judge_picture(grid: Grid, bytes: usize, attribute: u32) -> Verdict
     ensures answer { λ r. ⌜ r ≡ verdict-of (picture-tests grid bytes attribute) ⌝ }
 {
@@ -114,9 +123,14 @@ pub fn judge_picture(grid: Grid, bytes: usize, attribute: u32) -> Verdict
         entry_each(grid, bytes),
         causes::Cause::PictureLength,
     );
-    also(
+    let by_attribute = also(
         by_bytes,
         attribute_good(attribute),
         causes::Cause::Attribute,
+    );
+    also(
+        by_attribute,
+        neighbours_good(grid.neighbours),
+        causes::Cause::Neighbours,
     )
 }

@@ -1,8 +1,8 @@
--- The numbers of the causes, as the scope's table "Causes and their numbers" gives them, and tests in order, each with its cause.
+-- The numbers of the causes, as the scope's table "Causes and their numbers" and the requests give them, and tests in order, each with its cause.
 use Prim.Native.Nat.{ℕ}
 use mathlib.Core.Bool.{Bool, cond}
 use Rattle.causes.specs.declared.Cause.{Cause}
-use Rattle.causes.specs.declared.Cause.the-variants.{Sides, PictureLength, Attribute, Steps, Workspace, Output, Buffer, Sign, Header, Maximum, RasterLength, Sample, StepsFile, TooLarge, NotRead}
+use Rattle.causes.specs.declared.Cause.the-variants.{Sides, PictureLength, Attribute, Steps, Workspace, Output, Buffer, Sign, Header, Maximum, RasterLength, Sample, StepsFile, TooLarge, NotRead, Neighbours}
 
 abbrev pub number-of : Cause → ℕ
 -- width or height outside 1..4,096, or n above 1,048,576
@@ -35,6 +35,8 @@ number-of StepsFile = 13
 number-of TooLarge = 14
 -- program: a file not opened or read
 number-of NotRead = 15
+-- neighbourhood neither 4 nor 8
+number-of Neighbours = 17
 
 -- the answer where the test holds, else the refusal by the cause
 abbrev pub must : {A : Type 0} → (Cause → A) → Bool → Cause → A → A

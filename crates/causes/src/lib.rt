@@ -30,6 +30,7 @@ pub enum Cause {
     StepsFile,
     TooLarge,
     NotRead,
+    Neighbours,
 }
 
 pub fn number(cause: Cause) -> u32
@@ -51,6 +52,7 @@ pub fn number(cause: Cause) -> u32
         Cause::StepsFile => 13,
         Cause::TooLarge => 14,
         Cause::NotRead => 15,
+        Cause::Neighbours => 17,
     }
 }
 

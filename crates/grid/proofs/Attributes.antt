@@ -1,6 +1,6 @@
 -- An attribute cannot fall as a set grows and is 0 of the empty set alone; neighbours are mutual. Assumes nothing.
 use Prim.Native.Nat.{ℕ, _+_, _-_, _≤_, _<_}
-use mathlib.Core.Bool.{Bool, true, false, cond, _||_, false≢true}
+use mathlib.Core.Bool.{Bool, true, false, cond, false≢true}
 use mathlib.Core.Logic.{⊎-elim}
 use mathlib.Core.Path.{_≡_, refl}
 use native.Mathlib.Nat.{div-le-self, mod-le}
@@ -17,14 +17,14 @@ use Rattle.connected.proofs.Laws.{both-symmetric}
 use Rattle.opening.specs.Opening.{Increasing, Needs-pixel, at-least}
 use Rattle.opening.proofs.Levels.{cond-case}
 use Rattle.grid.specs.Pixels.{pixels}
-use Rattle.grid.specs.Neighbours.{adjacent, next-in-row, next-in-column}
+use Rattle.grid.specs.Neighbours.{adjacent, next-of}
 use Rattle.grid.specs.Attributes.{extent, side, attribute}
 use Rattle.grid.specs.declared.Grid.{Grid}
 
--- neighbours are mutual
+-- neighbours are mutual, 4 or 8
 pub adjacent-symmetric : (grid : Grid) → Symmetric (adjacent grid)
 unfolding adjacent
-adjacent-symmetric grid = both-symmetric (λ (p q : ℕ). next-in-row (grid .width) p q || next-in-column (grid .width) p q)
+adjacent-symmetric grid = both-symmetric (next-of (grid .neighbours) (grid .width))
 
 extent-step : (a b : Bool) (x y u v : ℕ) → (a ≡ true → b ≡ true) → u ≤ v → y ≤ x → cond a (u - x + 1) 0 ≤ cond b (v - y + 1) 0
 extent-step true true x y u v i h k = omega arith

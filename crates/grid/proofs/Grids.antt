@@ -1,6 +1,6 @@
--- A grid is given by its sides. Assumes nothing.
+-- A grid is given by its sides and the number of neighbours. Assumes nothing.
 use mathlib.Core.Path.{_≡_}
 use Rattle.grid.specs.declared.Grid.{Grid}
 
-pub same-sides : (f g : Grid) → f .width ≡ g .width → f .height ≡ g .height → f ≡ g
-same-sides f g widths heights i = record { width = widths i; height = heights i }
+pub same-grid : (f g : Grid) → f .width ≡ g .width → f .height ≡ g .height → f .neighbours ≡ g .neighbours → f ≡ g
+same-grid f g widths heights numbers i = record { width = widths i; height = heights i; neighbours = numbers i }

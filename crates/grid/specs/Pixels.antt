@@ -6,6 +6,6 @@ use Rattle.grid.specs.declared.Grid.{Grid}
 abbrev pub pixels : Grid → ℕ
 pixels grid = grid .width * grid .height
 
--- the grid with these sides
-abbrev pub grid-of : ℕ → ℕ → Grid
-grid-of width height = record { width = width; height = height }
+-- the grid with these sides and so many neighbours
+abbrev pub grid-of : ℕ → ℕ → ℕ → Grid
+grid-of width height neighbours = record { width = width; height = height; neighbours = neighbours }

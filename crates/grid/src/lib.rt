@@ -5,6 +5,7 @@ ghost use Rattle.grid.specs.Pixels.{pixels};
 pub struct Grid {
     pub width: u32,
     pub height: u32,
+    pub neighbours: u32,
 }
 
 // How many pixels a picture has. The product of any two sides fits 64 bits.

@@ -3,7 +3,7 @@
 use Prim.Native.Nat.{ℕ, suc, _≤_, _<_}
 use mathlib.Core.Bool.{true, _||_}
 use mathlib.Core.List.{List}
-use mathlib.Core.Logic.{_⊎_}
+use mathlib.Core.Logic.{_⊎_, inl, inr}
 use mathlib.Core.Path.{_≡_, refl, sym, ap, _∙_}
 use native.Mathlib.Omega.{arith}
 use lib.Dec.{eqb, ltb}
@@ -51,6 +51,13 @@ one-more-met :
 one-more-met {n} {q} ws ws' C h new fits =
     count-stored n (λ (k : ℕ). ltb k n) (turned-back C) h (lt-ltb (number-at ws' q) n fits) (le-ltb (number-at ws q) n (omega arith))
 
+-- what was met stays met
+still-met :
+    {n q : ℕ} (ws ws' : List ℕ) → Changed n (number-at ws) (number-at ws') q (number-at ws' q) → number-at ws' q < n → (x : ℕ)
+    → x < n → number-at ws x < n → number-at ws' x < n
+still-met {q = q} ws ws' C fits x hx h =
+    by-cases (equal-or-not x q) (λ e. rw e fits) (λ ne. rw (C .there x hx ne) h)
+
 -- the pixel where the flood stands, and the visits of its neighbours
 module _ {grid : Grid} {picture : List ℕ} {s : Lists} {l p : ℕ} (S : Standing grid picture s l p) where
   head-placed :
@@ -74,8 +81,8 @@ module _ {grid : Grid} {picture : List ℕ} {s : Lists} {l p : ℕ} (S : Standin
   pub stands-at : StandsAt grid picture s p
   stands-at = rw standing-grey S
 
-  pub visiting : (q : ℕ) → q < length picture → adjacent grid p q ≡ true → Visiting grid picture s l q
-  visiting q h e = record { ready = S .ready; within = h; next = rw (S .here) e }
+  pub visiting : (q : ℕ) → q < length picture → adjacent grid p q ≡ true → Visiting grid picture s l p q
+  visiting q h e = record { standing = S; within = h; next = e }
 
 module _ {grid : Grid} {picture : List ℕ} {s : Lists} where
   -- a head is a place in part 3
@@ -90,105 +97,82 @@ module _ {grid : Grid} {picture : List ℕ} {s : Lists} where
 
   -- nothing is stored
   pub stays :
-      {l : ℕ} {side : Positions} → Ready grid picture s l
+      {l p : ℕ} {side : Positions} → Standing grid picture s l p
       → ((x : ℕ) → x < length picture → side x ≡ true → number-at (s .words) x < length picture)
-      → Visited grid picture s s l l side
-  stays R met =
+      → Visited grid picture s s p p side
+  stays S met =
       record {
-        ready = R;
+        stands = stands-at S;
         same-heads = refl;
-        same-head = refl;
         kept = λ x hx h. h;
         more = omega arith;
         raised = λ ne. absurd (ne refl);
         met = λ e. met;
-        to = λ ne. absurd (ne refl);
       }
 
-  -- after a visit that stays, the same pixel is at the head
-  pub still :
-      {s' : Lists} {l p : ℕ} {side : Positions} → Standing grid picture s l p → Visited grid picture s s' l l side
-      → Standing grid picture s' l p
-  still S U = record { ready = U .ready; here = U .same-head ∙ S .here }
-
-  module _ {s' : Lists} {l r : ℕ} {side : Positions} (U : Visited grid picture s s' l r side) where
-    -- the flood stays at the level that the visit began at
-    pub settle : r ≡ l → Visited grid picture s s' l l side
-    settle e = rw e at U
+  module _ {s' : Lists} {p r : ℕ} {side : Positions} (U : Visited grid picture s s' p r side) where
+    -- after a visit that stays, the flood stands where it stood
+    pub still : {l : ℕ} → Standing grid picture s l p → r ≡ p → Standing grid picture s' l p
+    still S e =
+        let T : Standing grid picture s' (grey picture p) p = rw e at (U .stands) in
+        rw (standing-grey S) at T
 
     -- no word is added
-    pub same-words : Ready grid picture s l → length (s' .words) ≡ length (s .words)
-    same-words R = U .ready .sized .words ∙ sym (R .sized .words)
+    pub same-words : {l : ℕ} → Standing grid picture s l p → length (s' .words) ≡ length (s .words)
+    same-words S = U .stands .ready .sized .words ∙ sym (S .ready .sized .words)
+
+    -- other pixels that are met where the flood stays
+    on-other :
+        {other : Positions}
+        → (r ≡ p → (x : ℕ) → x < length picture → other x ≡ true → number-at (s' .words) x < length picture)
+        → Visited grid picture s s' p r other
+    on-other met =
+        record {
+          stands = U .stands;
+          same-heads = U .same-heads;
+          kept = U .kept;
+          more = U .more;
+          raised = U .raised;
+          met = met;
+        }
+
+    -- a visit that moves the flood
+    pub moved : {other : Positions} → (r ≡ p → ⊥) → Visited grid picture s s' p r other
+    moved ne = on-other (λ e. absurd (ne e))
+
+    -- a visit of all that was not met on another side
+    pub covers :
+        {other : Positions}
+        → ((x : ℕ) → x < length picture → other x ≡ true → (side x ≡ true) ⊎ (number-at (s .words) x < length picture))
+        → Visited grid picture s s' p r other
+    covers within = on-other (λ e x hx h. by-cases (within x hx h) (U .met e x hx) (U .kept x hx))
 
   -- the visit of the only pixel on a side
   pub on-side :
-      {s' : Lists} {l r q : ℕ} {side : Positions} → Visited grid picture s s' l r (eqb q)
-      → ((x : ℕ) → side x ≡ true → x ≡ q) → side q ≡ true → Visited grid picture s s' l r side
-  on-side {q = q} U only there =
-      record {
-        ready = U .ready;
-        same-heads = U .same-heads;
-        same-head = U .same-head;
-        kept = U .kept;
-        more = U .more;
-        raised = U .raised;
-        met = λ e x hx h. U .met e x hx (eq-eqb q x (sym (only x h)));
-        to = λ ne. rw (← eqb-true q _ (U .to ne)) there;
-      }
+      {s' : Lists} {p q r : ℕ} {side : Positions} → Visited grid picture s s' p r (eqb q) → ((x : ℕ) → side x ≡ true → x ≡ q)
+      → Visited grid picture s s' p r side
+  on-side {q = q} U only = covers U (λ x hx h. inl (eq-eqb q x (sym (only x h))))
 
   -- one visit after another that stays
   pub visits :
-      {s₁ s₂ : Lists} {l r : ℕ} {side₁ side₂ : Positions} → Visited grid picture s s₁ l l side₁
-      → Visited grid picture s₁ s₂ l r side₂ → Visited grid picture s s₂ l r (λ x. side₁ x || side₂ x)
-  visits {side₁ = side₁} {side₂ = side₂} A B =
+      {s₁ s₂ : Lists} {p q r : ℕ} {side₁ side₂ : Positions} → Visited grid picture s s₁ p q side₁ → q ≡ p
+      → Visited grid picture s₁ s₂ p r side₂ → Visited grid picture s s₂ p r (λ x. side₁ x || side₂ x)
+  visits {side₁ = side₁} {side₂ = side₂} A here B =
       record {
-        ready = B .ready;
+        stands = B .stands;
         same-heads = B .same-heads ∙ A .same-heads;
-        same-head = B .same-head ∙ A .same-head;
         kept = λ x hx h. B .kept x hx (A .kept x hx h);
         more = omega (arith, A .more, B .more);
         raised = λ ne. omega (arith, A .more, B .raised ne);
         met = λ e x hx h.
-            by-cases (or-cases (side₁ x) (side₂ x) h) (λ a. B .kept x hx (A .met refl x hx a)) (λ b. B .met e x hx b);
-        to = λ ne. or-right (side₁ _) _ (B .to ne);
+            by-cases (or-cases (side₁ x) (side₂ x) h) (λ a. B .kept x hx (A .met here x hx a)) (λ b. B .met e x hx b);
       }
 
-  module _ {s' : Lists} {l r p : ℕ} {side : Positions} (U : Visited grid picture s s' l r side) (S : Standing grid picture s l p) where
-    -- the flood moves up to the pixel on a side
-    pub climbs : {q : ℕ} → (r ≡ l → ⊥) → head-pixel (length picture) s' r ≡ q → VisitedAround grid picture s s' p q
-    climbs {q} ne here =
-        let T : Standing grid picture s' r q = record { ready = U .ready; here = here } in
-        record {
-          stands = stands-at T;
-          same-heads = U .same-heads;
-          more = U .more;
-          raised = λ other. U .raised ne;
-          met = λ e. absurd (ne (sym (standing-grey T) ∙ ap (grey picture) e ∙ standing-grey S));
-        }
-
-    -- the flood stays, and every other neighbour was met before
-    pub all-met : r ≡ l → Met-but grid picture s p side → VisitedAround grid picture s s' p p
-    all-met e others =
-        record {
-          stands = stands-at (still S (settle U e));
-          same-heads = U .same-heads;
-          more = U .more;
-          raised = λ ne. absurd (ne refl);
-          met = λ same x hx h. by-cases (others x hx h) (U .met e x hx) (U .kept x hx);
-        }
-
-  -- the last visit after others that stay
+  -- the last visit, of all neighbours that were not met, after others that stay
   pub then-last :
-      {s₁ s₂ : Lists} {l p q : ℕ} {side : Positions} → Visited grid picture s s₁ l l side → VisitedAround grid picture s₁ s₂ p q
-      → VisitedAround grid picture s s₂ p q
-  then-last A B =
-      record {
-        stands = B .stands;
-        same-heads = B .same-heads ∙ A .same-heads;
-        more = omega (arith, A .more, B .more);
-        raised = λ ne. omega (arith, A .more, B .raised ne);
-        met = B .met;
-      }
+      {s₁ s₂ : Lists} {p q r : ℕ} {side : Positions} → Visited grid picture s s₁ p q side → q ≡ p
+      → VisitedAround grid picture s₁ s₂ p r → VisitedAround grid picture s s₂ p r
+  then-last {side = side} A here B = covers (visits A here B) (λ x hx h. inl (or-right (side x) _ h))
 
   -- the root of an open level is a pixel of it
   pub root-greys :
@@ -209,13 +193,13 @@ module _ {grid : Grid} {picture : List ℕ} {s : Lists} where
         marks = R .marks;
       }
 
-  module _ {l q : ℕ} (U : Visiting grid picture s l q) where
+  module _ {l p q : ℕ} (U : Visiting grid picture s l p q) where
     abbrev R : Ready grid picture s l
-    R = U .ready
+    R = U .standing .ready
 
-    pub already : (number-at (s .words) q ≡ length picture → ⊥) → Visited grid picture s s l l (eqb q)
+    pub already : (number-at (s .words) q ≡ length picture → ⊥) → Visited grid picture s s p p (eqb q)
     already ne =
-        stays R (λ x hx h. let e = eqb-true q x h in rw (sym e) (omega (arith, R .named .range q (U .within))))
+        stays (U .standing) (λ x hx h. let e = eqb-true q x h in rw (sym e) (omega (arith, R .named .range q (U .within))))
 
     -- no node is open at a brighter level
     no-root : l < grey picture q → length picture ≤ R .root (grey picture q)
@@ -252,13 +236,6 @@ module _ {grid : Grid} {picture : List ℕ} {s : Lists} where
           named-fits : number-at ws' q < length picture
           named-fits = pushed-number-fits (R .named) (P .numbering) (U .within) new
 
-          kept : (x : ℕ) → x < length picture → number-at (s .words) x < length picture → number-at ws' x < length picture
-          kept x hx h =
-              by-cases
-              (equal-or-not x q)
-              (λ e. rw e named-fits)
-              (λ ne. rw (P .numbering .num .there x hx ne) h)
-
           renamed :
               Renamed (length picture) (grey picture q) q (grey picture) (R .par) (R .root)
               (numbers-of (length picture) ws' opened')
@@ -268,65 +245,79 @@ module _ {grid : Grid} {picture : List ℕ} {s : Lists} where
           first-here : l < grey picture q → order-of (length picture) ws' (getD (s .heads) (grey picture q) 0) ≡ q
           first-here brighter = rw (R .sound .idle (grey picture q) (R .bytes q) (no-root brighter)) (P .ord .here)
 
-          pub queued :
-              {r : ℕ} → ((l < grey picture q) × (r ≡ grey picture q)) ⊎ ((grey picture q ≤ l) × (r ≡ l))
-              → Visited grid picture s (lists ws' (s .heads) tails' opened') l r (eqb q)
-          queued {r} which =
+          abbrev after : Lists
+          after = lists ws' (s .heads) tails' opened'
+
+          -- the flood stands at the brighter of the two levels
+          queued-ready :
+              {k : ℕ} → ((l < grey picture q) × (k ≡ grey picture q)) ⊎ ((grey picture q ≤ l) × (k ≡ l))
+              → Ready grid picture after k
+          queued-ready {k} which =
               let A = R .at in
               let N = renamed in
               let step = pushes (s .heads) P N in
+              record {
+                bytes = R .bytes;
+                whole = R .whole;
+                wide = R .wide;
+                sized = record { words = same-length ∙ R .sized .words; small = R .sized .small };
+                wide-heads = R .wide-heads;
+                wide-tails = P .wide-tails;
+                wide-opened = P .wide-opened;
+                marks = P .marks;
+                first = N .first';
+                par = N .par';
+                root = N .root';
+                named = N .named;
+                sound =
+                    met-sound (R .sound) (R .bytes q) (U .within) refl unmet step (λ x h. R .bytes x)
+                    (reaches (R .sound) A (U .standing .here) (U .within) (U .next));
+                at = met-at (R .sound) (R .bytes q) (U .within) refl unmet step l k A which;
+              }
+
+          same-head : head-pixel (length picture) after l ≡ head-pixel (length picture) s l
+          same-head =
+              let A = R .at in
+              met-ord (R .sound) (R .bytes q) (U .within) refl unmet (pushes (s .heads) P renamed) l (A .level)
+              (A .busy l (A .level) (A .open-here))
+
+          queued-stands : {r : ℕ} → ((l < grey picture q) × (r ≡ q)) ⊎ ((grey picture q ≤ l) × (r ≡ p)) → StandsAt grid picture after r
+          queued-stands (inl up) =
+              rw (up .1) (record { ready = queued-ready (inl (up .0, refl)); here = first-here (up .0) })
+          queued-stands (inr stay) =
+              rw
+              (stay .1)
+              (stands-at (record { ready = queued-ready (inr (stay .0, refl)); here = same-head ∙ U .standing .here }))
+
+          pub queued :
+              {r : ℕ} → ((l < grey picture q) × (r ≡ q)) ⊎ ((grey picture q ≤ l) × (r ≡ p))
+              → Visited grid picture s after p r (eqb q)
+          queued which =
               let raise = one-more-met (s .words) ws' (P .numbering .num) (U .within) new named-fits in
               record {
-                ready =
-                    record {
-                      bytes = R .bytes;
-                      whole = R .whole;
-                      wide = R .wide;
-                      sized = record { words = same-length ∙ R .sized .words; small = R .sized .small };
-                      wide-heads = R .wide-heads;
-                      wide-tails = P .wide-tails;
-                      wide-opened = P .wide-opened;
-                      marks = P .marks;
-                      first = N .first';
-                      par = N .par';
-                      root = N .root';
-                      named = N .named;
-                      sound =
-                          met-sound (R .sound) (R .bytes q) (U .within) refl unmet step (λ x h. R .bytes x)
-                          (reaches (R .sound) A refl (U .within) (U .next));
-                      at = met-at (R .sound) (R .bytes q) (U .within) refl unmet step l r A which;
-                    };
+                stands = queued-stands which;
                 same-heads = refl;
-                same-head =
-                    met-ord (R .sound) (R .bytes q) (U .within) refl unmet step l (A .level)
-                    (A .busy l (A .level) (A .open-here));
-                kept = kept;
+                kept = still-met (s .words) ws' (P .numbering .num) named-fits;
                 more = omega arith;
                 raised = λ ne. omega arith;
-                met = λ same-level x hx h. let e = eqb-true q x h in rw (sym e) named-fits;
-                to = λ ne.
-                    by-cases
-                    which
-                    (λ up. eq-eqb q _ (sym (rw (up .1) (first-here (up .0)))))
-                    (λ same. absurd (ne (same .1)));
+                met = λ same x hx h. let e = eqb-true q x h in rw (sym e) named-fits;
               }
 
 -- q, the neighbour of p on a side that has no other pixel, is not met and of p's level: it takes p's place at the head
-module _ {grid : Grid} {picture : List ℕ} {s : Lists} {l p q : ℕ} {side : Positions} (S : Standing grid picture s l p)
-    (others : Met-but grid picture s p side) (only : (x : ℕ) → side x ≡ true → x ≡ q) (U : Visiting grid picture s l q)
-    (fresh : unmet-at picture (s .words) l q ≡ true)
+module _ {grid : Grid} {picture : List ℕ} {s : Lists} {l p q : ℕ} {side : Positions} (U : Visiting grid picture s l p q)
+    (others : Met-but grid picture s p side) (only : (x : ℕ) → side x ≡ true → x ≡ q) (fresh : unmet-at picture (s .words) l q ≡ true)
   where
     in-q : q < length picture
     in-q = U .within
-
-    next : adjacent grid p q ≡ true
-    next = rw (S .here) at (U .next)
 
     new : number-at (s .words) q ≡ length picture
     new = eqb-true _ _ (and-left (eqb (number-at (s .words) q) (length picture)) _ fresh)
 
     level : grey picture q ≡ l
     level = eqb-true _ _ (and-right (eqb (number-at (s .words) q) (length picture)) _ fresh)
+
+    abbrev S : Standing grid picture s l p
+    S = U .standing
 
     abbrev ready : Ready grid picture s l
     ready = S .ready
@@ -389,10 +380,10 @@ module _ {grid : Grid} {picture : List ℕ} {s : Lists} {l p q : ℕ} {side : Po
               root = N .root';
               named = N .named;
               sound =
-                  followed-sound (ready .sound) bytes (adjacent-symmetric grid) (ready .at) (S .here) in-q level unmet-parent next
+                  followed-sound (ready .sound) bytes (adjacent-symmetric grid) (ready .at) (S .here) in-q level unmet-parent (U .next)
                   parents pars (P .ord) roots;
               at =
-                  followed-at (ready .sound) bytes (adjacent-symmetric grid) (ready .at) (S .here) in-q level unmet-parent next parents
+                  followed-at (ready .sound) bytes (adjacent-symmetric grid) (ready .at) (S .here) in-q level unmet-parent (U .next) parents
                   pars (P .ord) roots;
             }
 
@@ -403,6 +394,7 @@ module _ {grid : Grid} {picture : List ℕ} {s : Lists} {l p q : ℕ} {side : Po
             record {
               stands = stands-at (record { ready = goes-on; here = P .ord .here });
               same-heads = refl;
+              kept = still-met (s .words) ws' (P .numbering .num) fits;
               more = omega arith;
               raised = λ ne. omega arith;
               met = λ e. absurd (other e);

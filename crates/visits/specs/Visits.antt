@@ -1,6 +1,6 @@
 -- What the visits ask and leave, on the lists that they are lent.
-use Prim.Native.Nat.{ℕ, _≤_, _<_}
-use mathlib.Core.Bool.{Bool, true, _&&_}
+use Prim.Native.Nat.{ℕ, _%_, _≤_, _<_}
+use mathlib.Core.Bool.{Bool, true, _&&_, _||_}
 use mathlib.Core.List.{List}
 use mathlib.Core.Logic.{_⊎_}
 use mathlib.Core.Path.{_≡_}
@@ -10,7 +10,7 @@ use lib.Dec.{eqb, ltb}
 use lib.ListN.{getD, length}
 use Rattle.sets.specs.Sets.{Positions, count}
 use Rattle.grid.specs.Pixels.{pixels}
-use Rattle.grid.specs.Neighbours.{next-in-row, next-in-column, adjacent}
+use Rattle.grid.specs.Neighbours.{next-in-row, next-in-column, next-on-corner, adjacent}
 use Rattle.grid.specs.declared.Grid.{Grid}
 use Rattle.levels.specs.Levels.{grey}
 use Rattle.levels.specs.Workspace.{Sized, number-at, order-of}
@@ -71,11 +71,11 @@ pub record Standing (grid : Grid) (picture : List ℕ) (s : Lists) (l p : ℕ) :
 abbrev pub StandsAt : Grid → List ℕ → Lists → ℕ → Type 0
 StandsAt grid picture s p = Standing grid picture s (grey picture p) p
 
--- q is a neighbour of the pixel at the head of level l, at which the flood stands
-pub record Visiting (grid : Grid) (picture : List ℕ) (s : Lists) (l q : ℕ) : Type 0 where
-  pub ready : Ready grid picture s l
+-- q is a neighbour of p, at which the flood stands
+pub record Visiting (grid : Grid) (picture : List ℕ) (s : Lists) (l p q : ℕ) : Type 0 where
+  pub standing : Standing grid picture s l p
   pub within : q < length picture
-  pub next : adjacent grid (head-pixel (length picture) s l) q ≡ true
+  pub next : adjacent grid p q ≡ true
 
 -- the pixel above p, left of it, right of it and below it, where there is one
 abbrev pub above : Grid → ℕ → Positions
@@ -90,27 +90,45 @@ right-of grid p q = next-in-row (grid .width) p q
 abbrev pub below : Grid → ℕ → Positions
 below grid p q = next-in-column (grid .width) p q
 
--- neighbours of the pixel at the head of level l were visited, and the flood stands at level r; where that is l, those on the side
--- named are all met, and where it is not, the pixel at its head is on that side
-pub record Visited (grid : Grid) (picture : List ℕ) (s s' : Lists) (l r : ℕ) (side : Positions) : Type 0 where
-  pub ready : Ready grid picture s' r
+-- a pixel on one of two sides
+abbrev pub either-side : (Grid → ℕ → Positions) → (Grid → ℕ → Positions) → Grid → ℕ → Positions
+either-side one other grid p q = one grid p q || other grid p q
+
+abbrev pub beside : Grid → ℕ → Positions
+beside = either-side left-of right-of
+
+-- the pixels on the corners of p, in the row above and in the one below
+abbrev pub corners-above : Grid → ℕ → Positions
+corners-above grid p q = next-on-corner (grid .width) q p
+
+abbrev pub corners-below : Grid → ℕ → Positions
+corners-below grid p q = next-on-corner (grid .width) p q
+
+-- those that are neighbours
+abbrev pub corners : Grid → ℕ → Positions
+corners grid p q = eqb (grid .neighbours) 8 && either-side corners-above corners-below grid p q
+
+-- b is a pixel in the column named, and those beside it are neighbours of p
+pub record Based (grid : Grid) (picture : List ℕ) (p b column : ℕ) : Type 0 where
+  pub within : b < length picture
+  pub column-is : column ≡ b % grid .width
+  pub near : (x : ℕ) → beside grid b x ≡ true → adjacent grid p x ≡ true
+
+-- neighbours of the pixel p, at which the flood stood, were visited, and it stands at the pixel q; where that is p, those on the side named are
+-- all met
+pub record Visited (grid : Grid) (picture : List ℕ) (s s' : Lists) (p q : ℕ) (side : Positions) : Type 0 where
+  pub stands : StandsAt grid picture s' q
   pub same-heads : s' .heads ≡ s .heads
-  pub same-head : head-pixel (length picture) s' l ≡ head-pixel (length picture) s l
   pub kept : (x : ℕ) → x < length picture → number-at (s .words) x < length picture → number-at (s' .words) x < length picture
   pub more : met-count (length picture) (s .words) ≤ met-count (length picture) (s' .words)
-  pub raised : (r ≡ l → ⊥) → met-count (length picture) (s .words) < met-count (length picture) (s' .words)
-  pub met : r ≡ l → (x : ℕ) → x < length picture → side x ≡ true → number-at (s' .words) x < length picture
-  pub to : (r ≡ l → ⊥) → side (head-pixel (length picture) s' r) ≡ true
+  pub raised : (q ≡ p → ⊥) → met-count (length picture) (s .words) < met-count (length picture) (s' .words)
+  pub met : q ≡ p → (x : ℕ) → x < length picture → side x ≡ true → number-at (s' .words) x < length picture
 
 -- every neighbour of p is met, but for the one on the side named
 abbrev pub Met-but : Grid → List ℕ → Lists → ℕ → Positions → Type 0
 Met-but grid picture s p side =
     (x : ℕ) → x < length picture → adjacent grid p x ≡ true → (side x ≡ true) ⊎ (number-at (s .words) x < length picture)
 
--- neighbours of the pixel p, at which the flood stood, were visited, and it stands at the pixel q; where that is p, all are met
-pub record VisitedAround (grid : Grid) (picture : List ℕ) (s s' : Lists) (p q : ℕ) : Type 0 where
-  pub stands : StandsAt grid picture s' q
-  pub same-heads : s' .heads ≡ s .heads
-  pub more : met-count (length picture) (s .words) ≤ met-count (length picture) (s' .words)
-  pub raised : (q ≡ p → ⊥) → met-count (length picture) (s .words) < met-count (length picture) (s' .words)
-  pub met : q ≡ p → (x : ℕ) → x < length picture → adjacent grid p x ≡ true → number-at (s' .words) x < length picture
+-- all neighbours of p were visited, until the flood moved
+abbrev pub VisitedAround : Grid → List ℕ → Lists → Lists → ℕ → ℕ → Type 0
+VisitedAround grid picture s s' p q = Visited grid picture s s' p q (adjacent grid p)

@@ -1,42 +1,43 @@
 // The visits: each neighbour of the pixel at the head of the current level that is not met is put into its queue, or takes the place at the
-// head.
+// head. Each visit answers the pixel at which the flood goes on: a brighter one that was not met, or the one that it stands at.
 ghost use mathlib.Core.Path.{_≡_};
 ghost use Prim.Native.Nat.{_%_, _<_};
 ghost use lib.Dec.{eqb};
 ghost use lib.ListN.{length};
 ghost use Rattle.levels.specs.Workspace.{Sized};
-ghost use Rattle.visits.specs.Visits.{held, at-entry, at-exit, Standing, Visiting, above, left-of, right-of, below, Visited, unmet-at, Met-but, VisitedAround};
+ghost use Rattle.visits.specs.Visits.{held, at-entry, at-exit, Standing, Visiting, above, left-of, right-of, below, beside};
+ghost use Rattle.visits.specs.Visits.{corners-above, corners-below, corners, Based, Visited, unmet-at, Met-but, VisitedAround};
 use grid::Grid;
 
-// Visits the pixel q, a neighbour of the one at the head of the current level: it is put into its queue unless it is met. The answer is
-// the level at which the flood goes on, the brighter of the two.
+// Visits q, a neighbour of p, the pixel at the head of the current level: it is put into its queue unless it is met.
 fn visit(
     picture: &[u8],
     grid: Grid,
     q: usize,
+    p: usize,
     level: usize,
     ws: &mut [u32],
     heads: &[usize; 256],
     tails: &mut [usize; 256],
     opened: &mut [usize; 262],
 ) -> usize
-    requires { ⌜ Visiting grid (now picture) (held ws heads tails opened) level q ⌝ }
-    ensures { λ r. ⌜ Visited grid (now (picture .entry)) (at-entry ws heads tails opened) (at-exit ws heads tails opened) level r (eqb q) ⌝ }
+    requires { ⌜ Visiting grid (now picture) (held ws heads tails opened) level p q ⌝ }
+    ensures { λ r. ⌜ Visited grid (now (picture .entry)) (at-entry ws heads tails opened) (at-exit ws heads tails opened) p r (eqb q) ⌝ }
 {
     let n = picture.len();
     if ws[q] as usize != n {
-        return level;
+        return p;
     }
     let l = picture[q] as usize;
     if l > level {
         queues::push_first(n, q, l, ws, tails, opened);
-        return l;
+        return q;
     }
     queues::push(n, q, l, ws, tails, opened);
-    level
+    p
 }
 
-// The neighbour above p, the pixel at the head of the current level.
+// The neighbour above p.
 fn visit_up(
     picture: &[u8],
     grid: Grid,
@@ -48,13 +49,13 @@ fn visit_up(
     opened: &mut [usize; 262],
 ) -> usize
     requires { ⌜ Standing grid (now picture) (held ws heads tails opened) level p ⌝ }
-    ensures { λ r. ⌜ Visited grid (now (picture .entry)) (at-entry ws heads tails opened) (at-exit ws heads tails opened) level r (above grid p) ⌝ }
+    ensures { λ r. ⌜ Visited grid (now (picture .entry)) (at-entry ws heads tails opened) (at-exit ws heads tails opened) p r (above grid p) ⌝ }
 {
     let width = grid.width as usize;
     if p < width {
-        return level;
+        return p;
     }
-    visit(picture, grid, p - width, level, ws, heads, tails, opened)
+    visit(picture, grid, p - width, p, level, ws, heads, tails, opened)
 }
 
 // The neighbour below p.
@@ -69,17 +70,110 @@ fn visit_down(
     opened: &mut [usize; 262],
 ) -> usize
     requires { ⌜ Standing grid (now picture) (held ws heads tails opened) level p ⌝ }
-    ensures { λ r. ⌜ Visited grid (now (picture .entry)) (at-entry ws heads tails opened) (at-exit ws heads tails opened) level r (below grid p) ⌝ }
+    ensures { λ r. ⌜ Visited grid (now (picture .entry)) (at-entry ws heads tails opened) (at-exit ws heads tails opened) p r (below grid p) ⌝ }
 {
     let width = grid.width as usize;
     if picture.len() - p <= width {
-        return level;
+        return p;
     }
-    visit(picture, grid, p + width, level, ws, heads, tails, opened)
+    visit(picture, grid, p + width, p, level, ws, heads, tails, opened)
 }
 
-// The neighbour left of p, which stands in the column named.
+// The pixel left of the base, which stands in the column named: the base is p, or the pixel above or below it.
 fn visit_left(
+    picture: &[u8],
+    grid: Grid,
+    column: usize,
+    base: usize,
+    p: usize,
+    level: usize,
+    ws: &mut [u32],
+    heads: &[usize; 256],
+    tails: &mut [usize; 256],
+    opened: &mut [usize; 262],
+) -> usize
+    requires { ⌜ Standing grid (now picture) (held ws heads tails opened) level p ⌝ }
+    requires { ⌜ Based grid (now picture) p base column ⌝ }
+    ensures { λ r. ⌜ Visited grid (now (picture .entry)) (at-entry ws heads tails opened) (at-exit ws heads tails opened) p r (left-of grid base) ⌝ }
+{
+    if column == 0 {
+        return p;
+    }
+    visit(picture, grid, base - 1, p, level, ws, heads, tails, opened)
+}
+
+// The pixel right of the base.
+fn visit_right(
+    picture: &[u8],
+    grid: Grid,
+    column: usize,
+    base: usize,
+    p: usize,
+    level: usize,
+    ws: &mut [u32],
+    heads: &[usize; 256],
+    tails: &mut [usize; 256],
+    opened: &mut [usize; 262],
+) -> usize
+    requires { ⌜ Standing grid (now picture) (held ws heads tails opened) level p ⌝ }
+    requires { ⌜ Based grid (now picture) p base column ⌝ }
+    ensures { λ r. ⌜ Visited grid (now (picture .entry)) (at-entry ws heads tails opened) (at-exit ws heads tails opened) p r (right-of grid base) ⌝ }
+{
+    let width = grid.width as usize;
+    if column + 1 == width {
+        return p;
+    }
+    visit(picture, grid, base + 1, p, level, ws, heads, tails, opened)
+}
+
+// Both of them.
+fn visit_beside(
+    picture: &[u8],
+    grid: Grid,
+    column: usize,
+    base: usize,
+    p: usize,
+    level: usize,
+    ws: &mut [u32],
+    heads: &[usize; 256],
+    tails: &mut [usize; 256],
+    opened: &mut [usize; 262],
+) -> usize
+    requires { ⌜ Standing grid (now picture) (held ws heads tails opened) level p ⌝ }
+    requires { ⌜ Based grid (now picture) p base column ⌝ }
+    ensures { λ r. ⌜ Visited grid (now (picture .entry)) (at-entry ws heads tails opened) (at-exit ws heads tails opened) p r (beside grid base) ⌝ }
+{
+    let left = visit_left(
+        picture,
+        grid,
+        column,
+        base,
+        p,
+        level,
+        ws,
+        heads,
+        tails,
+        opened,
+    );
+    if left != p {
+        return left;
+    }
+    visit_right(
+        picture,
+        grid,
+        column,
+        base,
+        p,
+        level,
+        ws,
+        heads,
+        tails,
+        opened,
+    )
+}
+
+// The corners of p in the row above.
+fn visit_corners_above(
     picture: &[u8],
     grid: Grid,
     column: usize,
@@ -92,12 +186,86 @@ fn visit_left(
 ) -> usize
     requires { ⌜ Standing grid (now picture) (held ws heads tails opened) level p ⌝ }
     requires { ⌜ column ≡ p % grid .width ⌝ }
-    ensures { λ r. ⌜ Visited grid (now (picture .entry)) (at-entry ws heads tails opened) (at-exit ws heads tails opened) level r (left-of grid p) ⌝ }
+    requires { ⌜ grid .neighbours ≡ 8 ⌝ }
+    ensures { λ r. ⌜ Visited grid (now (picture .entry)) (at-entry ws heads tails opened) (at-exit ws heads tails opened) p r (corners-above grid p) ⌝ }
 {
-    if column == 0 {
-        return level;
+    let width = grid.width as usize;
+    if p < width {
+        return p;
     }
-    visit(picture, grid, p - 1, level, ws, heads, tails, opened)
+    visit_beside(
+        picture,
+        grid,
+        column,
+        p - width,
+        p,
+        level,
+        ws,
+        heads,
+        tails,
+        opened,
+    )
+}
+
+// The corners of p in the row below.
+fn visit_corners_below(
+    picture: &[u8],
+    grid: Grid,
+    column: usize,
+    p: usize,
+    level: usize,
+    ws: &mut [u32],
+    heads: &[usize; 256],
+    tails: &mut [usize; 256],
+    opened: &mut [usize; 262],
+) -> usize
+    requires { ⌜ Standing grid (now picture) (held ws heads tails opened) level p ⌝ }
+    requires { ⌜ column ≡ p % grid .width ⌝ }
+    requires { ⌜ grid .neighbours ≡ 8 ⌝ }
+    ensures { λ r. ⌜ Visited grid (now (picture .entry)) (at-entry ws heads tails opened) (at-exit ws heads tails opened) p r (corners-below grid p) ⌝ }
+{
+    let width = grid.width as usize;
+    if picture.len() - p <= width {
+        return p;
+    }
+    visit_beside(
+        picture,
+        grid,
+        column,
+        p + width,
+        p,
+        level,
+        ws,
+        heads,
+        tails,
+        opened,
+    )
+}
+
+// The corners of p, which are neighbours where 8 are named.
+fn visit_corners(
+    picture: &[u8],
+    grid: Grid,
+    column: usize,
+    p: usize,
+    level: usize,
+    ws: &mut [u32],
+    heads: &[usize; 256],
+    tails: &mut [usize; 256],
+    opened: &mut [usize; 262],
+) -> usize
+    requires { ⌜ Standing grid (now picture) (held ws heads tails opened) level p ⌝ }
+    requires { ⌜ column ≡ p % grid .width ⌝ }
+    ensures { λ r. ⌜ Visited grid (now (picture .entry)) (at-entry ws heads tails opened) (at-exit ws heads tails opened) p r (corners grid p) ⌝ }
+{
+    if grid.neighbours != 8 {
+        return p;
+    }
+    let over = visit_corners_above(picture, grid, column, p, level, ws, heads, tails, opened);
+    if over != p {
+        return over;
+    }
+    visit_corners_below(picture, grid, column, p, level, ws, heads, tails, opened)
 }
 
 // Whether the pixel q is not met and has the grey named.
@@ -113,9 +281,8 @@ fn unmet_at(picture: &[u8], q: usize, level: usize, ws: &[u32]) -> bool
 }
 
 // The neighbour right of p, the last one. Where it is not met and of the same level, p is done, and it takes p's place at the head of the
-// level: so the flood goes along a row, and the pixels below it wait in their order. The answer is the pixel at which the flood goes
-// on, p where it stays.
-fn visit_right(
+// level: so the flood goes along a row, and the pixels below it wait in their order.
+fn visit_last(
     picture: &[u8],
     grid: Grid,
     column: usize,
@@ -129,7 +296,7 @@ fn visit_right(
     requires { ⌜ Standing grid (now picture) (held ws heads tails opened) level p ⌝ }
     requires { ⌜ column ≡ p % grid .width ⌝ }
     requires { ⌜ Met-but grid (now picture) (held ws heads tails opened) p (right-of grid p) ⌝ }
-    ensures { λ q. ⌜ VisitedAround grid (now (picture .entry)) (at-entry ws heads tails opened) (at-exit ws heads tails opened) p q ⌝ }
+    ensures { λ r. ⌜ VisitedAround grid (now (picture .entry)) (at-entry ws heads tails opened) (at-exit ws heads tails opened) p r ⌝ }
 {
     let width = grid.width as usize;
     if column + 1 == width {
@@ -141,15 +308,11 @@ fn visit_right(
         queues::replace(picture.len(), q, level, head, ws, opened);
         return q;
     }
-    let right = visit(picture, grid, q, level, ws, heads, tails, opened);
-    if right != level {
-        return q;
-    }
-    p
+    visit(picture, grid, q, p, level, ws, heads, tails, opened)
 }
 
 // The neighbours of p, the pixel at the head of the current level, until the flood moves: up to one that is brighter and was not met, or on to
-// the one on the right, which takes p's place. The answer is the pixel at which it goes on, p where it stays: all its neighbours are met then.
+// the one on the right, which takes p's place. Where it stays, all its neighbours are met.
 pub fn visit_around(
     picture: &[u8],
     grid: Grid,
@@ -161,21 +324,24 @@ pub fn visit_around(
     opened: &mut [usize; 262],
 ) -> usize
     requires { ⌜ Standing grid (now picture) (held ws heads tails opened) level p ⌝ }
-    ensures { λ q. ⌜ VisitedAround grid (now (picture .entry)) (at-entry ws heads tails opened) (at-exit ws heads tails opened) p q ⌝ }
+    ensures { λ r. ⌜ VisitedAround grid (now (picture .entry)) (at-entry ws heads tails opened) (at-exit ws heads tails opened) p r ⌝ }
 {
-    let width = grid.width as usize;
     let column = (p as u32 % grid.width) as usize;
     let up = visit_up(picture, grid, p, level, ws, heads, tails, opened);
-    if up != level {
-        return p - width;
+    if up != p {
+        return up;
     }
-    let left = visit_left(picture, grid, column, p, level, ws, heads, tails, opened);
-    if left != level {
-        return p - 1;
+    let left = visit_left(picture, grid, column, p, p, level, ws, heads, tails, opened);
+    if left != p {
+        return left;
     }
     let down = visit_down(picture, grid, p, level, ws, heads, tails, opened);
-    if down != level {
-        return p + width;
+    if down != p {
+        return down;
     }
-    visit_right(picture, grid, column, p, level, ws, heads, tails, opened)
+    let corner = visit_corners(picture, grid, column, p, level, ws, heads, tails, opened);
+    if corner != p {
+        return corner;
+    }
+    visit_last(picture, grid, column, p, level, ws, heads, tails, opened)
 }

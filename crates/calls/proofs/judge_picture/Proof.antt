@@ -23,15 +23,24 @@ attribute-good-requires c κs = search needs
 also-requires-3 : tie.Need-also-requires-3
 also-requires-3 c κs = search needs
 
+neighbours-good-requires : tie.Need-neighbours-good-requires
+neighbours-good-requires c κs = search needs
+
+also-requires-4 : tie.Need-also-requires-4
+also-requires-4 c κs = search needs
+
 returns : tie.Need-returns
 returns c =
+    let third = c .before .before in
+    let second = third .before .before in
+    let first = second .before .before in
     tested _
-    (c .also3 .ensures)
+    (c .also4 .ensures)
     (tested _
-    (c .before .before .also2 .ensures)
-    (tested _ (c .before .before .before .before .also .ensures) refl (c .before .before .before .before .before .fit .ensures))
-    (c .before .before .before .entry-each .ensures))
-    (c .before .attribute-good .ensures)
+    (third .also3 .ensures)
+    (tested _ (second .also2 .ensures) (tested _ (first .also .ensures) refl (first .before .fit .ensures)) (second .before .entry-each .ensures))
+    (third .before .attribute-good .ensures))
+    (c .before .neighbours-good .ensures)
 
 pub judge-picture-spec : {M : Type 1} → statement M
 judge-picture-spec =
@@ -43,4 +52,6 @@ judge-picture-spec =
     also-requires-2
     attribute-good-requires
     also-requires-3
+    neighbours-good-requires
+    also-requires-4
     returns)
