@@ -7,9 +7,9 @@ use native.Mathlib.Omega.{arith}
 use lib.Dec.{ltb}
 use lib.ListN.{length}
 use borrow.Author.Tests.{ltb-false, lt-ltb, le-ltb}
-use Rattle.grid.specs.Pixels.{pixels, grid-of}
+use Rattle.grid.specs.Pixels.{pixels}
 use Rattle.grid.specs.declared.Grid.{Grid}
-use Rattle.grid.proofs.Grids.{same-sides}
+use Rattle.grid.proofs.Grids.{same-grid}
 use Rattle.causes.specs.declared.Cause.{Cause}
 use Rattle.causes.proofs.Numbers.{number-determined}
 use Rattle.causes.specs.declared.Cause.the-variants.{TooLarge, NotRead}
@@ -27,7 +27,7 @@ use Rattle.basin_judging.specs.declared.Lengths.{Lengths}
 use Rattle.basin_judging.specs.declared.Lengths.the-variants.{Both, Refused as Not-both}
 use Rattle.basin_judging.specs.declared.Job.{Job}
 use Rattle.basin_judging.specs.declared.Job.the-variants.{Size, Refused}
-use Rattle.basin_judging.specs.Judging.{longest-file, most-sized, both-read, lengths-numbers, sized-by, judged-with, job-of, job-numbers, job-steps}
+use Rattle.basin_judging.specs.Judging.{longest-file, most-sized, both-read, lengths-numbers, basin-grid, sized-by, judged-with, job-of, job-numbers, job-steps}
 
 -- an answer's numbers determine it
 pub lengths-determined : (r s : Lengths) → lengths-numbers r ≡ lengths-numbers s → r ≡ s
@@ -37,7 +37,7 @@ lengths-determined (Not-both c) (Both k l) e = absurd (omega (arith, ap length e
 lengths-determined (Not-both c) (Not-both d) e = ap Not-both (number-determined c d (cc e))
 
 pub job-determined : (r s : Job) → job-numbers r ≡ job-numbers s → r ≡ s
-job-determined (Size f a k) (Size g b l) e = let grids : f ≡ g = same-sides f g (cc e) (cc e) in cc
+job-determined (Size f a k) (Size g b l) e = let grids : f ≡ g = same-grid f g (cc e) (cc e) (cc e) in cc
 job-determined (Size f a k) (Refused d) e = absurd (omega (arith, ap length e))
 job-determined (Refused c) (Size g b l) e = absurd (omega (arith, ap length e))
 job-determined (Refused c) (Refused d) e = ap Refused (number-determined c d (cc e))
@@ -80,13 +80,13 @@ unfolding job-of job-steps
 unread file list lent cause e = rw e (refl, refl)
 
 module _ (file list lent : List ℕ) (w h maximum start : ℕ) (is : read-answer file ≡ Picture w h maximum start) where
-  pub too-large : most-sized < pixels (grid-of w h) → Judged file list lent (Refused TooLarge) lent
+  pub too-large : most-sized < pixels (basin-grid w h) → Judged file list lent (Refused TooLarge) lent
   unfolding job-of job-steps
-  too-large l = rw (is, lt-ltb most-sized (pixels (grid-of w h)) l) (refl, refl)
+  too-large l = rw (is, lt-ltb most-sized (pixels (basin-grid w h)) l) (refl, refl)
 
-  pub small-enough : pixels (grid-of w h) ≤ most-sized → (answer : Job) (after : List ℕ) → answer ≡ sized-by (grid-of w h) (parse-answer list) → after ≡ steps-after list lent → Judged file list lent answer after
+  pub small-enough : pixels (basin-grid w h) ≤ most-sized → (answer : Job) (after : List ℕ) → answer ≡ sized-by (basin-grid w h) (parse-answer list) → after ≡ steps-after list lent → Judged file list lent answer after
   unfolding job-of job-steps
-  small-enough l answer after e f = rw (is, le-ltb most-sized (pixels (grid-of w h)) l) (ap job-numbers e, f)
+  small-enough l answer after e f = rw (is, le-ltb most-sized (pixels (basin-grid w h)) l) (ap job-numbers e, f)
 
 -- what is to be sized: a picture of at most 2,048 pixels, by a steps file that is accepted
 pub record Sizing (file list lent : List ℕ) (attribute count : ℕ) : Type 0 where
@@ -102,15 +102,15 @@ module _ (file list lent : List ℕ) (grid : Grid) (attribute count : ℕ) where
   within : (found : Found) → read-answer file ≡ found → judged-with found (parse-answer list) ≡ Size grid attribute count → Sizing file list lent attribute count
   unfolding job-steps
   within (Not-found cause) is e = let z : _≡_ {A = ℕ} 0 1 = cc in absurd (omega arith)
-  within (Picture w h maximum start) is e = go (ltb most-sized (pixels (grid-of w h))) refl
+  within (Picture w h maximum start) is e = go (ltb most-sized (pixels (basin-grid w h))) refl
     where
-      go : (large : Bool) → ltb most-sized (pixels (grid-of w h)) ≡ large → Sizing file list lent attribute count
+      go : (large : Bool) → ltb most-sized (pixels (basin-grid w h)) ≡ large → Sizing file list lent attribute count
       go true l = let f : Refused TooLarge ≡ Size grid attribute count = sym (rw l refl) ∙ e in let z : _≡_ {A = ℕ} 0 1 = cc in absurd (omega arith)
       go false l =
-          let f : sized-by (grid-of w h) (parse-answer list) ≡ Size grid attribute count = sym (rw l refl) ∙ e in
+          let f : sized-by (basin-grid w h) (parse-answer list) ≡ Size grid attribute count = sym (rw l refl) ∙ e in
           record {
-            few = omega (arith, accepted-page file w h maximum start is .raster-length, ltb-false most-sized (pixels (grid-of w h)) l);
-            parsed = steps-of (grid-of w h) grid attribute count (parse-answer list) f;
+            few = omega (arith, accepted-page file w h maximum start is .raster-length, ltb-false most-sized (pixels (basin-grid w h)) l);
+            parsed = steps-of (basin-grid w h) grid attribute count (parse-answer list) f;
             stored = rw (is, l) refl;
           }
 

@@ -39,9 +39,9 @@ abbrev pub lengths-numbers : Lengths → List ℕ
 lengths-numbers (Both p s) = 0 ∷ p ∷ s ∷ []
 lengths-numbers (Not-both cause) = number-of cause ∷ []
 
--- 0, the sides, the attribute and how many steps, or the number of the cause
+-- 0, the grid, the attribute and how many steps, or the number of the cause
 abbrev pub job-numbers : Job → List ℕ
-job-numbers (Size grid attribute count) = 0 ∷ grid .width ∷ grid .height ∷ attribute ∷ count ∷ []
+job-numbers (Size grid attribute count) = 0 ∷ grid .width ∷ grid .height ∷ grid .neighbours ∷ attribute ∷ count ∷ []
 job-numbers (Refused cause) = number-of cause ∷ []
 
 -- a picture with its grid, by the answer on the steps file
@@ -49,10 +49,14 @@ abbrev pub sized-by : Grid → Parsed → Job
 sized-by grid (Steps attribute count) = Size grid attribute count
 sized-by grid (Not-parsed cause) = Refused cause
 
+-- "The program stays at 4."
+abbrev pub basin-grid : ℕ → ℕ → Grid
+basin-grid w h = grid-of w h 4
+
 -- the reader's causes, then "n above 2,048", then those of the steps file
 abbrev pub judged-with : Found → Parsed → Job
 judged-with (Picture w h maximum start) parsed =
-    cond (ltb most-sized (pixels (grid-of w h))) (Refused TooLarge) (sized-by (grid-of w h) parsed)
+    cond (ltb most-sized (pixels (basin-grid w h))) (Refused TooLarge) (sized-by (basin-grid w h) parsed)
 judged-with (Not-found cause) parsed = Refused cause
 
 unfoldable pub job-of : List ℕ → List ℕ → Job
@@ -60,7 +64,7 @@ job-of file list = judged-with (read-answer file) (parse-answer list)
 
 -- the thresholds: those of the steps file, where it comes to be judged
 abbrev pub stored-with : Found → List ℕ → List ℕ → List ℕ
-stored-with (Picture w h maximum start) list lent = cond (ltb most-sized (pixels (grid-of w h))) lent (steps-after list lent)
+stored-with (Picture w h maximum start) list lent = cond (ltb most-sized (pixels (basin-grid w h))) lent (steps-after list lent)
 stored-with (Not-found cause) list lent = lent
 
 unfoldable pub job-steps : List ℕ → List ℕ → List ℕ → List ℕ

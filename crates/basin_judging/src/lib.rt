@@ -85,7 +85,11 @@ pub fn judge(file: &[u8], list: &[u8], thresholds: &mut [u32; 256]) -> Job
             maximum: _,
             start: _,
         } => {
-            let grid = Grid { width, height };
+            let grid = Grid {
+                width,
+                height,
+                neighbours: 4,
+            };
             if MOST_SIZED < grid::pixels(grid) {
                 return Job::Refused(Cause::TooLarge);
             }

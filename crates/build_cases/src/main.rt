@@ -28,10 +28,20 @@ fn builds(
     width: u32,
     height: u32,
     attribute: u32,
+    neighbours: u32,
     workspace: &mut [u32],
 ) {
     printing::text(name);
-    answer(max_tree::build(picture, Grid { width, height }, attribute, workspace));
+    answer(max_tree::build(
+        picture,
+        Grid {
+            width,
+            height,
+            neighbours,
+        },
+        attribute,
+        workspace,
+    ));
     left(workspace);
     printing::text(b"\n");
 }
@@ -46,7 +56,8 @@ fn case(line: &[u8]) {
         table::number(line, 2),
         table::number(line, 3),
         table::number(line, 4),
-        table::lent_words(line, 5, &mut workspace),
+        table::number(line, 5),
+        table::lent_words(line, 6, &mut workspace),
     );
 }
 
@@ -75,9 +86,10 @@ fn largest() {
         64,
         64,
         1,
+        4,
         &mut workspace,
     );
-    builds(b"in a single row", &picture, 4096, 1, 3, &mut workspace);
+    builds(b"in a single row", &picture, 4096, 1, 3, 8, &mut workspace);
 }
 
 fn main() {

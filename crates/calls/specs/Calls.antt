@@ -50,7 +50,7 @@ after Accepted written lent = written
 after (Refused cause) written lent = lent
 
 -- a slice that a function is lent, in its contract
-abbrev Lent : Type 0 → Type 0
+abbrev pub Lent : Type 0 → Type 0
 Lent E = Both (RefT (List ℕ)) E
 
 -- Building: what a call names and is lent.

@@ -59,8 +59,7 @@ abbrev pub picture-tests : Grid → ℕ → ℕ → List Test
 picture-tests grid bytes attribute =
     (sides-fit (grid .width) (grid .height), Sides)
     ∷ (eqb bytes (pixels grid), PictureLength)
-    ∷ (attribute-good attribute, Attribute)
-    ∷ (neighbours-good (grid .neighbours), Neighbours)
+    ∷ (attribute-good attribute, Attribute) ∷ (neighbours-good (grid .neighbours), Neighbours)
     ∷ []
 
 -- 5, by the workspace's words

@@ -27,7 +27,7 @@ use Rattle.flooding.proofs.Meeting.{tail-le}
 use Rattle.flooding.proofs.Numbers.{changed-once, close-fits, open-number, open-root, named-closed, named-ended}
 use Rattle.queues.specs.Queues.{Lists, lists, taken-of, state-of, NoneOpen, NextOpen, Closable, Shut, ClosedTo}
 use Rattle.visits.specs.Visits.{Ready, Standing, VisitedAround}
-use Rattle.visits.proofs.Visits.{standing-grey, root-greys}
+use Rattle.visits.proofs.Visits.{still, root-greys}
 use Rattle.flood.specs.Calls.{spent, NumberedBy, Leavable, Ended, Left}
 
 -- the heads with that of level l moved on
@@ -216,9 +216,7 @@ module _ {grid : Grid} {picture : List ℕ} {s s' : Lists} {p q : ℕ} (U : Visi
   moves ne = rw (U .same-heads) (omega (arith, U .raised ne))
 
   pub leavable : {l : ℕ} → Standing grid picture s l p → q ≡ p → Leavable grid picture s' l p
-  leavable S e =
-      let T : Standing grid picture s' (grey picture p) p = rw e at (U .stands) in
-      record { stands = rw (standing-grey S) at T; met = U .met e }
+  leavable S e = record { stands = still U S e; met = U .met e }
 
   pub leaves : {s″ : Lists} {r : ℕ} → Left grid picture s' s″ r → spent (length picture) s < spent (length picture) s″
   leaves L = let both : spent (length picture) s ≤ spent (length picture) s' = rw (U .same-heads) (omega (arith, U .more)) in omega (arith, L .more)

@@ -61,7 +61,7 @@ fn run(
 }
 
 // Floods a picture: on return every node has a number, each pixel that of its node, and the parents that the numbers stand for join the
-// same pixels at every level as the picture's edges. The answer is how many nodes there are.
+// same pixels at every level as the picture's neighbours. The answer is how many nodes there are.
 pub fn flood(picture: &[u8], grid: Grid, ws: &mut [u32]) -> usize
     requires { ⌜ Floodable grid (now picture) (now ws) ⌝ }
     ensures { λ m. ⌜ NumberedBy grid (now (picture .entry)) (now (ws .exit)) m ⌝ }

@@ -10,6 +10,7 @@ fn maps(
     width: u32,
     height: u32,
     attribute: u32,
+    neighbours: u32,
     steps: &[u32],
     workspace: &mut [u32],
     residue: &mut [u8],
@@ -18,7 +19,11 @@ fn maps(
     printing::text(name);
     let answer = residues::map(
         picture,
-        Grid { width, height },
+        Grid {
+            width,
+            height,
+            neighbours,
+        },
         attribute,
         steps,
         workspace,
@@ -48,10 +53,11 @@ fn case(line: &[u8]) {
         table::number(line, 2),
         table::number(line, 3),
         table::number(line, 4),
-        table::words(line, 5, &mut thresholds),
-        table::lent_words(line, 6, &mut workspace),
-        table::lent_bytes(line, 7, &mut residue),
-        table::lent_entries(line, 8, &mut index),
+        table::number(line, 5),
+        table::words(line, 6, &mut thresholds),
+        table::lent_words(line, 7, &mut workspace),
+        table::lent_bytes(line, 8, &mut residue),
+        table::lent_entries(line, 9, &mut index),
     );
 }
 

@@ -13,14 +13,19 @@ fn case(line: &[u8]) {
     let width = table::number(line, 2);
     let height = table::number(line, 3);
     let attribute = table::number(line, 4);
-    let threshold = table::number(line, 5);
+    let neighbours = table::number(line, 5);
+    let threshold = table::number(line, 6);
     let answer = openings::open(
         picture,
-        Grid { width, height },
+        Grid {
+            width,
+            height,
+            neighbours,
+        },
         attribute,
         threshold,
-        table::lent_words(line, 6, &mut workspace),
-        table::lent_bytes(line, 7, &mut output),
+        table::lent_words(line, 7, &mut workspace),
+        table::lent_bytes(line, 8, &mut output),
     );
     printing::text(table::field(line, 0));
     printing::verdict(answer, b": done", b": refused ");

@@ -8,12 +8,12 @@ use Rattle.grid.specs.Attributes.{extent, side, attribute}
 use Rattle.opening.specs.Opening.{component-at, least-grey, highest-above, opened-by}
 use Rattle.opening.specs.Residue.{falls-from, largest, last-place, largest-place, residue-by, index-by}
 use Rattle.tree.specs.Tree.{lowest-own, representative, node-below, parent-representative, is-representative, parent-word, attribute-word, number-of-nodes, parents, attributes, workspace}
-use Rattle.calls.specs.Judging.{attribute-good, also}
+use Rattle.calls.specs.Judging.{attribute-good, neighbours-good, also}
 use Rattle.calls.specs.Calls.{built, opened-picture, residue-map, index-map}
 use Rattle.small_pictures.specs.Table.{Starred}
 
 pub starred : Starred
-unfolding also attribute-good adjacent built some-in count table-from table gather seed grow grown component extent side attribute component-at least-grey highest-above opened-by falls-from largest last-place largest-place lowest-own representative node-below parent-representative is-representative parent-word attribute-word number-of-nodes parents attributes workspace residue-by index-by opened-picture residue-map index-map
+unfolding also attribute-good neighbours-good adjacent built some-in count table-from table gather seed grow grown component extent side attribute component-at least-grey highest-above opened-by falls-from largest last-place largest-place lowest-own representative node-below parent-representative is-representative parent-word attribute-word number-of-nodes parents attributes workspace residue-by index-by opened-picture residue-map index-map
 starred =
     record {
       tree-record = refl;
@@ -33,4 +33,6 @@ starred =
       opened-4 = refl;
       two-rows-residue = refl;
       two-rows-index = refl;
+      corners-residue = refl;
+      corners-index = refl;
     }

@@ -6,11 +6,11 @@ ghost use lib.ListN.{length};
 ghost use Rattle.causes.specs.Causes.{number-of};
 ghost use Rattle.pgm_read.specs.Read.{read-answer, found-numbers};
 ghost use Rattle.pgm_write.specs.Write.{write-answer, written-numbers, buffer-after};
-ghost use Rattle.grid.specs.Pixels.{grid-of};
 ghost use Rattle.calls.specs.Judging.{verdict-numbers};
-ghost use Rattle.calls.specs.Calls.{build-call, built, built-numbers, build-workspace, open-call, open-verdict, open-workspace, open-output};
-ghost use Rattle.calls.specs.Calls.{map-call, map-verdict, map-workspace, map-residue, map-index};
+ghost use Rattle.calls.specs.Calls.{built, built-numbers, build-workspace, open-verdict, open-workspace, open-output};
+ghost use Rattle.calls.specs.Calls.{map-verdict, map-workspace, map-residue, map-index};
 ghost use Rattle.teldruf.specs.Codes.{code-of, number-code, head-with};
+ghost use Rattle.teldruf.specs.Parameters.{build-by, open-by, map-by};
 use causes::Cause;
 use grid::Grid;
 
@@ -68,12 +68,22 @@ pub extern "C" fn teldruf_build(
     width: u32,
     height: u32,
     attribute: u32,
+    neighbours: u32,
     workspace: &mut [u32],
 ) -> u64
-    ensures answer { λ r. ⌜ r ≡ code-of (built-numbers (built (build-call picture (grid-of width height) attribute workspace))) ⌝ }
-    ensures workspace { λ _. ⌜ now (workspace .exit) ≡ build-workspace (build-call picture (grid-of width height) attribute workspace) ⌝ }
+    ensures answer { λ r. ⌜ r ≡ code-of (built-numbers (built (build-by picture width height attribute neighbours workspace))) ⌝ }
+    ensures workspace { λ _. ⌜ now (workspace .exit) ≡ build-workspace (build-by picture width height attribute neighbours workspace) ⌝ }
 {
-    match max_tree::build(picture, Grid { width, height }, attribute, workspace) {
+    match max_tree::build(
+        picture,
+        Grid {
+            width,
+            height,
+            neighbours,
+        },
+        attribute,
+        workspace,
+    ) {
         calls::Built::Nodes(total) => total as u64,
         calls::Built::Refused(cause) => refused(cause),
     }
@@ -86,17 +96,22 @@ pub extern "C" fn teldruf_open(
     width: u32,
     height: u32,
     attribute: u32,
+    neighbours: u32,
     threshold: u32,
     workspace: &mut [u32],
     output: &mut [u8],
 ) -> u64
-    ensures answer { λ r. ⌜ r ≡ code-of (verdict-numbers (open-verdict (open-call picture (grid-of width height) attribute threshold workspace output))) ⌝ }
-    ensures workspace { λ _. ⌜ now (workspace .exit) ≡ open-workspace (open-call picture (grid-of width height) attribute threshold workspace output) ⌝ }
-    ensures output { λ _. ⌜ now (output .exit) ≡ open-output (open-call picture (grid-of width height) attribute threshold workspace output) ⌝ }
+    ensures answer { λ r. ⌜ r ≡ code-of (verdict-numbers (open-verdict (open-by picture width height attribute neighbours threshold workspace output))) ⌝ }
+    ensures workspace { λ _. ⌜ now (workspace .exit) ≡ open-workspace (open-by picture width height attribute neighbours threshold workspace output) ⌝ }
+    ensures output { λ _. ⌜ now (output .exit) ≡ open-output (open-by picture width height attribute neighbours threshold workspace output) ⌝ }
 {
     match openings::open(
         picture,
-        Grid { width, height },
+        Grid {
+            width,
+            height,
+            neighbours,
+        },
         attribute,
         threshold,
         workspace,
@@ -114,19 +129,24 @@ pub extern "C" fn teldruf_map(
     width: u32,
     height: u32,
     attribute: u32,
+    neighbours: u32,
     steps: &[u32],
     workspace: &mut [u32],
     residue: &mut [u8],
     index: &mut [u16],
 ) -> u64
-    ensures answer { λ r. ⌜ r ≡ code-of (verdict-numbers (map-verdict (map-call picture (grid-of width height) attribute steps workspace residue index))) ⌝ }
-    ensures workspace { λ _. ⌜ now (workspace .exit) ≡ map-workspace (map-call picture (grid-of width height) attribute steps workspace residue index) ⌝ }
-    ensures residue { λ _. ⌜ now (residue .exit) ≡ map-residue (map-call picture (grid-of width height) attribute steps workspace residue index) ⌝ }
-    ensures index { λ _. ⌜ now (index .exit) ≡ map-index (map-call picture (grid-of width height) attribute steps workspace residue index) ⌝ }
+    ensures answer { λ r. ⌜ r ≡ code-of (verdict-numbers (map-verdict (map-by picture width height attribute neighbours steps workspace residue index))) ⌝ }
+    ensures workspace { λ _. ⌜ now (workspace .exit) ≡ map-workspace (map-by picture width height attribute neighbours steps workspace residue index) ⌝ }
+    ensures residue { λ _. ⌜ now (residue .exit) ≡ map-residue (map-by picture width height attribute neighbours steps workspace residue index) ⌝ }
+    ensures index { λ _. ⌜ now (index .exit) ≡ map-index (map-by picture width height attribute neighbours steps workspace residue index) ⌝ }
 {
     match residues::map(
         picture,
-        Grid { width, height },
+        Grid {
+            width,
+            height,
+            neighbours,
+        },
         attribute,
         steps,
         workspace,

@@ -1,15 +1,15 @@
 -- The sides of the pixel p where the flood stands: where there is no pixel on a side, what a visit of the one there asks, and that it is the
 -- only one. No other laws of the flood look into what a neighbour is.
 use Prim.Native.Nat.{ℕ, _+_, _-_, _%_, _≤_, _<_}
-use mathlib.Core.Bool.{true, _||_}
+use mathlib.Core.Bool.{true, false, _||_}
 use mathlib.Core.List.{List}
 use mathlib.Core.Logic.{_⊎_, inl, inr}
 use mathlib.Core.Path.{_≡_, refl, sym, ap, _∙_}
-use native.Mathlib.Nat.{mod-le, mod-self, mul-mod-right, add-mod-right}
+use native.Mathlib.Nat.{mod-le, mod-lt, mod-self, mul-mod-right, add-mod-right}
 use native.Mathlib.Omega.{arith}
 use lib.Dec.{eqb}
 use lib.ListN.{length}
-use borrow.Author.Tests.{eqb-true, eq-eqb}
+use borrow.Author.Tests.{eqb-true, eqb-false, eq-eqb}
 use Rattle.sets.specs.Sets.{Positions}
 use Rattle.sets.proofs.Tests.{and-left, and-right, and-both, or-cases, or-left, or-right}
 use Rattle.grid.specs.Neighbours.{adjacent}
@@ -111,15 +111,18 @@ module _ {grid : Grid} {picture : List ℕ} {s : Lists} {l p : ℕ} (S : Standin
         is-next-in-row w (b - 1) b (omega (arith, left-fits later)) (λ e. later (B .column-is ∙ e)) in
         visiting S (b - 1) (omega (arith, B .within)) (B .near (b - 1) (or-left _ _ left))
 
-    pub none-right : column + 1 ≡ w → Visited grid picture s s p p (right-of grid b)
+    pub column-in : column < w
+    column-in = omega (arith, mod-lt b (S .ready .wide), B .column-is)
+
+    pub none-right : eqb (column + 1) w ≡ true → Visited grid picture s s p p (right-of grid b)
     none-right last =
-        let ends : b % w + 1 ≡ w = ap (λ (x : ℕ). x + 1) (sym (B .column-is)) ∙ last in
+        let ends : b % w + 1 ≡ w = omega (arith, eqb-true (column + 1) w last, B .column-is) in
         stays S (λ q h e. absurd (right-inside w b q e (ap (λ (x : ℕ). x % w) (right-is w b q e) ∙ row-ends w b ends)))
 
-    pub visit-right : (column + 1 ≡ w → ⊥) → Visiting grid picture s l p (b + 1)
+    pub visit-right : eqb (column + 1) w ≡ false → Visiting grid picture s l p (b + 1)
     visit-right earlier =
         let on : (b + 1) % w ≡ 0 → ⊥ =
-        row-goes-on w b (S .ready .wide) (λ e. earlier (ap (λ (x : ℕ). x + 1) (B .column-is) ∙ e)) in
+        row-goes-on w b (S .ready .wide) (λ e. eqb-false (column + 1) w earlier (omega (arith, B .column-is))) in
         let right : right-of grid b (b + 1) ≡ true = is-next-in-row w b (b + 1) refl on in
         visiting S (b + 1) (row-in w b _ (B .within) rows-whole on) (B .near (b + 1) (or-right (left-of grid b (b + 1)) _ right))
 

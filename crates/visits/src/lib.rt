@@ -1,7 +1,7 @@
 // The visits: each neighbour of the pixel at the head of the current level that is not met is put into its queue, or takes the place at the
 // head. Each visit answers the pixel at which the flood goes on: a brighter one that was not met, or the one that it stands at.
 ghost use mathlib.Core.Path.{_≡_};
-ghost use Prim.Native.Nat.{_%_, _<_};
+ghost use Prim.Native.Nat.{_+_, _%_, _<_};
 ghost use lib.Dec.{eqb};
 ghost use lib.ListN.{length};
 ghost use Rattle.levels.specs.Workspace.{Sized};
@@ -102,6 +102,14 @@ fn visit_left(
     visit(picture, grid, base - 1, p, level, ws, heads, tails, opened)
 }
 
+// Whether a column is the last one.
+fn last_column(grid: Grid, column: usize) -> bool
+    requires { ⌜ column < grid .width ⌝ }
+    ensures { λ r. ⌜ r ≡ eqb (column + 1) (grid .width) ⌝ }
+{
+    column + 1 == grid.width as usize
+}
+
 // The pixel right of the base.
 fn visit_right(
     picture: &[u8],
@@ -119,8 +127,7 @@ fn visit_right(
     requires { ⌜ Based grid (now picture) p base column ⌝ }
     ensures { λ r. ⌜ Visited grid (now (picture .entry)) (at-entry ws heads tails opened) (at-exit ws heads tails opened) p r (right-of grid base) ⌝ }
 {
-    let width = grid.width as usize;
-    if column + 1 == width {
+    if last_column(grid, column) {
         return p;
     }
     visit(picture, grid, base + 1, p, level, ws, heads, tails, opened)
@@ -298,8 +305,7 @@ fn visit_last(
     requires { ⌜ Met-but grid (now picture) (held ws heads tails opened) p (right-of grid p) ⌝ }
     ensures { λ r. ⌜ VisitedAround grid (now (picture .entry)) (at-entry ws heads tails opened) (at-exit ws heads tails opened) p r ⌝ }
 {
-    let width = grid.width as usize;
-    if column + 1 == width {
+    if last_column(grid, column) {
         return p;
     }
     let q = p + 1;

@@ -2,14 +2,16 @@
 -- place of p, and any other is visited like the neighbours before it.
 use Prim.Native.Nat.{_+_}
 use mathlib.Core.Path.{sym, _∙_}
-use native.Mathlib.Nat.{mod-lt}
 use native.Mathlib.Omega.{arith}
-use Rattle.visits.specs.Visits.{held, Visiting}
+use Rattle.visits.specs.Visits.{held, Based, Visiting}
 use Rattle.visits.proofs.Visits.{standing-in, on-side, covers, replaceable, follows}
-use Rattle.visits.proofs.Beside.{based-here, none-right, visit-right, is-right}
+use Rattle.visits.proofs.Beside.{based-here, column-in, none-right, visit-right, is-right}
 use borrow.Author.Needs.{needs}
 use Rattle.visits.proofs.visit_last.Statement.{statement}
 use Rattle.visits.proofs.visit_last.Tie as tie
+
+based : (c : tie.Start) → Based (c .args .grid) (c .args .picture .now) (c .args .p) (c .args .p) (c .args .column)
+based c = based-here (c .pre .0) (c .pre .1 .0)
 
 -- there is a pixel on the right
 on-right :
@@ -17,16 +19,13 @@ on-right :
     → let at = c .before .before .before .before .args in
     Visiting (at .grid) (at .picture .now) (held (at .ws) (at .heads) (at .tails) (at .opened)) (at .level) (at .p) (at .p + 1)
 on-right c =
-    visit-right (c .before .before .before .before .pre .0) (based-here (c .before .before .before .before .pre .0) (c .before .before .before .before .pre .1 .0)) (c .if1 .left)
+    visit-right (c .before .before .before .before .pre .0) (based (c .before .before .before .before)) (sym (c .before .last-column .ensures) ∙ c .if1 .left)
 
-cast-width : tie.Need-cast-width
-cast-width c = search needs
-
-add-if1 : tie.Need-add-if1
-add-if1 c = omega (arith, mod-lt (c .before .before .before .args .p) (c .before .before .before .pre .0 .ready .wide), c .before .before .before .pre .1 .0, c .struct-known .given)
+last-column-requires : tie.Need-last-column-requires
+last-column-requires c κs = column-in (c .before .before .pre .0) (based (c .before .before))
 
 returns : tie.Need-returns
-returns c = covers (none-right (c .before .before .before .before .pre .0) (based-here (c .before .before .before .before .pre .0) (c .before .before .before .before .pre .1 .0)) (c .if1 .taken)) (c .before .before .before .before .pre .1 .1)
+returns c = covers (none-right (c .before .before .before .before .pre .0) (based (c .before .before .before .before)) (sym (c .before .last-column .ensures) ∙ c .if1 .taken)) (c .before .before .before .before .pre .1 .1)
 
 add-q : tie.Need-add-q
 add-q c = omega (arith, standing-in (c .before .before .before .before .pre .0))
@@ -69,8 +68,7 @@ pub visit-last-spec : {M : Type 1} → statement M
 visit-last-spec =
     tie.close
     (tie.spec
-    cast-width
-    add-if1
+    last-column-requires
     returns
     add-q
     unmet-at-requires

@@ -1,26 +1,22 @@
 -- `visit_right` meets its contract. A pixel of the last column has none to its right.
-use native.Mathlib.Nat.{mod-lt}
-use native.Mathlib.Omega.{arith}
+use mathlib.Core.Path.{sym, _∙_}
 use Rattle.visits.proofs.Visits.{on-side}
-use Rattle.visits.proofs.Beside.{none-right, visit-right, is-right}
+use Rattle.visits.proofs.Beside.{column-in, none-right, visit-right, is-right}
 use borrow.Author.Needs.{needs}
 use Rattle.visits.proofs.visit_right.Statement.{statement}
 use Rattle.visits.proofs.visit_right.Tie as tie
 
-cast-width : tie.Need-cast-width
-cast-width c = search needs
-
-add-if1 : tie.Need-add-if1
-add-if1 c = omega (arith, mod-lt (c .before .before .before .args .base) (c .before .before .before .pre .0 .ready .wide), c .before .before .before .pre .1 .column-is, c .struct-known .given)
+last-column-requires : tie.Need-last-column-requires
+last-column-requires c κs = column-in (c .before .before .pre .0) (c .before .before .pre .1)
 
 returns : tie.Need-returns
-returns c = none-right (c .before .before .before .before .pre .0) (c .before .before .before .before .pre .1) (c .if1 .taken)
+returns c = none-right (c .before .before .before .before .pre .0) (c .before .before .before .before .pre .1) (sym (c .before .last-column .ensures) ∙ c .if1 .taken)
 
 add-visit : tie.Need-add-visit
 add-visit c = search needs
 
 visit-requires : tie.Need-visit-requires
-visit-requires c κs = visit-right (c .before .before .before .before .before .before .before .pre .0) (c .before .before .before .before .before .before .before .pre .1) (c .before .before .before .if1 .left)
+visit-requires c κs = visit-right (c .before .before .before .before .before .before .before .pre .0) (c .before .before .before .before .before .before .before .pre .1) (sym (c .before .before .before .before .last-column .ensures) ∙ c .before .before .before .if1 .left)
 
 same-length : tie.Need-same-length
 same-length c = search needs
@@ -30,4 +26,5 @@ returns-2 c = on-side (c .before .before .visit .ensures) (is-right (c .before .
 
 pub visit-right-spec : {M : Type 1} → statement M
 visit-right-spec =
-    tie.close (tie.spec cast-width add-if1 returns add-visit visit-requires same-length returns-2)
+    tie.close
+    (tie.spec last-column-requires returns add-visit visit-requires same-length returns-2)

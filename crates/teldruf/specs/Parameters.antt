@@ -1,0 +1,15 @@
+-- The calls by the parameters of the C interface, in their order.
+use Prim.Native.Nat.{ℕ}
+use Rattle.grid.specs.Pixels.{grid-of}
+use Rattle.calls.specs.Calls.{Lent, Build-call, build-call, Open-call, open-call, Map-call, map-call}
+
+abbrev pub build-by : {E F : Type 0} → Lent E → ℕ → ℕ → ℕ → ℕ → Lent F → Build-call
+build-by picture width height attribute neighbours workspace = build-call picture (grid-of width height neighbours) attribute workspace
+
+abbrev pub open-by : {E F G : Type 0} → Lent E → ℕ → ℕ → ℕ → ℕ → ℕ → Lent F → Lent G → Open-call
+open-by picture width height attribute neighbours threshold workspace output =
+    open-call picture (grid-of width height neighbours) attribute threshold workspace output
+
+abbrev pub map-by : {E F G H I : Type 0} → Lent E → ℕ → ℕ → ℕ → ℕ → Lent F → Lent G → Lent H → Lent I → Map-call
+map-by picture width height attribute neighbours steps workspace residue index =
+    map-call picture (grid-of width height neighbours) attribute steps workspace residue index
