@@ -3,7 +3,9 @@
  * library beside them where the benchmark is built with one. All must agree; times are printed and nothing is asked of them. A time
  * is the processor time of one call, the least of several, on memory that was touched before and is not cleared between calls.
  *
- *   bench [area|height|width] [RUNS]
+ *   bench [area|height|width] [RUNS] [4|8]
+ *
+ * Without a number of neighbours there is a table for each.
  */
 #include "bench.h"
 
@@ -14,16 +16,21 @@
 
 enum { SIDE = 1024, PIXELS = SIDE * SIDE, CAMERA_SECONDS = 20 };
 
-#ifdef BEFORE
-enum { LIBRARY, FLOOD, UNION, EARLIER, WAYS };
-#else
-enum { LIBRARY, FLOOD, UNION, WAYS };
+/* The most neighbours that the earlier library knows, 0 without one. */
+#ifndef BEFORE
+#define BEFORE 0
 #endif
+
+enum { LIBRARY, FLOOD, UNION, EARLIER, WAYS };
 
 static const char *const ways[] = {"library", "flooding in C", "union-find in C", "the earlier library"};
 static const char *const parts[PARTS] = {"build", "opening", "map"};
+static const char *const attributes[] = {"area", "height", "width"};
 
 uint32_t steps[STEPS];
+
+/* How many of the ways run: the earlier library where it knows the neighbours named. */
+static int ways_with(uint32_t neighbours) { return neighbours <= BEFORE ? WAYS : EARLIER; }
 
 static double milliseconds(void) {
     struct timespec t;
@@ -51,7 +58,7 @@ static uint64_t c_call(record_fn *record, map_fn *map, int part, const picture_t
 static uint64_t call(int way, int part, const picture_t *picture, uint32_t attribute, result_t *r) {
     if (way == LIBRARY)
         return library_call(part, picture, attribute, r);
-#ifdef BEFORE
+#if BEFORE
     if (way == EARLIER)
         return before_call(part, picture, attribute, r);
 #endif
@@ -76,35 +83,36 @@ static int agree(const result_t *a, const result_t *b) {
            memcmp(a->index, b->index, PIXELS * sizeof *a->index) == 0;
 }
 
-static void print_rows(const char *name, double times[PARTS][WAYS]) {
+static void print_rows(const char *name, int count, double times[PARTS][WAYS]) {
     for (int part = 0; part < PARTS; part++) {
         double *t = times[part];
         printf("%-13s %-8s %9.1f %9.1f %9.1f   %8.2f %8.2f", name, parts[part], t[LIBRARY], t[FLOOD], t[UNION],
                t[LIBRARY] / t[FLOOD], t[LIBRARY] / t[UNION]);
-#ifdef BEFORE
-        printf(" %9.1f %9.2f", t[EARLIER], t[LIBRARY] / t[EARLIER]);
-#endif
+        if (count > EARLIER)
+            printf(" %9.1f %9.2f", t[EARLIER], t[LIBRARY] / t[EARLIER]);
         putchar('\n');
     }
 }
 
 /* All ways and parts on one picture; the time of the library's map call, below 0 if the ways differ. */
-static double run_picture(const char *name, uint32_t attribute, int runs, result_t results[WAYS]) {
+static double run_picture(const char *name, uint32_t attribute, uint32_t neighbours, int runs, result_t results[WAYS]) {
     picture_t picture;
+    int count = ways_with(neighbours);
     double times[PARTS][WAYS];
     if (!picture_make(&picture, name, SIDE, SIDE))
         exit(2);
+    picture.neighbours = neighbours;
     for (int run = 0; run < runs; run++)
         for (int part = 0; part < PARTS; part++)
-            for (int k = 0; k < WAYS; k++) {
-                int way = (run + k) % WAYS;
+            for (int k = 0; k < count; k++) {
+                int way = (run + k) % count;
                 double time = timed(way, part, &picture, attribute, &results[way]);
                 if (run == 0 || time < times[part][way])
                     times[part][way] = time;
             }
     free(picture.greys);
-    print_rows(name, times);
-    for (int way = 1; way < WAYS; way++)
+    print_rows(name, count, times);
+    for (int way = 1; way < count; way++)
         if (!agree(&results[0], &results[way])) {
             printf("%s: library and %s differ\n", name, ways[way]);
             return -1;
@@ -112,29 +120,41 @@ static double run_picture(const char *name, uint32_t attribute, int runs, result
     return times[MAP][LIBRARY];
 }
 
-int main(int count, char **words) {
+/* All pictures with one number of neighbours. Answers on how many the ways differ. */
+static int run_table(uint32_t attribute, uint32_t neighbours, int runs, result_t results[WAYS]) {
     const char *names[] = {"floc", "noise", "smooth", "ramp", "flat", "checkerboard"};
-    const char *attributes[] = {"area", "height", "width"};
-    uint32_t attribute = AREA;
+    int differing = 0;
+    printf("%d pixels, %u neighbours, %s, opening at %d, map with %d steps; ms, least of %d\n", PIXELS, (unsigned)neighbours,
+           attributes[attribute - 1], THRESHOLD, STEPS, runs);
+    printf("%-13s %-8s %9s %9s %9s   %8s %8s", "picture", "call", "library", "flooding", "union", "to flood", "to union");
+    puts(ways_with(neighbours) > EARLIER ? "   earlier  to that" : "");
+    for (int k = 0; k < 6; k++) {
+        double time = run_picture(names[k], attribute, neighbours, runs, results);
+        differing += time < 0;
+        if (time > 0)
+            printf("%-13s map: %.1f pictures a second, %.0f cameras a core\n", names[k], 1e3 / time, CAMERA_SECONDS * 1e3 / time);
+    }
+    return differing;
+}
+
+int main(int count, char **words) {
+    uint32_t attribute = AREA, named = count > 3 ? (uint32_t)atoi(words[3]) : 0;
     int runs = count > 2 ? atoi(words[2]) : 7, differing = 0;
+    if (count > 3 && named != 4 && named != 8) {
+        fprintf(stderr, "bench: '%s' is neither 4 nor 8\n", words[3]);
+        return 2;
+    }
     for (uint32_t a = 0; count > 1 && a < 3; a++)
         if (!strcmp(words[1], attributes[a]))
             attribute = a + 1;
     for (uint32_t i = 0; i < STEPS; i++)
         steps[i] = 1 + i + i * i / 16;
     result_t results[WAYS];
-    for (int way = 0; way < WAYS; way++)
+    for (int way = 0; way < (BEFORE ? WAYS : EARLIER); way++)
         results[way] = (result_t){lend(6 * PIXELS * 4), lend(PIXELS), lend(PIXELS), lend(PIXELS * 2), 0};
-    printf("%d pixels, %s, opening at %d, map with %d steps; ms, least of %d\n", PIXELS, attributes[attribute - 1], THRESHOLD,
-           STEPS, runs);
-    printf("%-13s %-8s %9s %9s %9s   %8s %8s", "picture", "call", "library", "flooding", "union", "to flood", "to union");
-    puts(WAYS > 3 ? "   earlier  to that" : "");
-    for (int k = 0; k < 6; k++) {
-        double time = run_picture(names[k], attribute, runs < 1 ? 1 : runs, results);
-        differing += time < 0;
-        if (time > 0)
-            printf("%-13s map: %.1f pictures a second, %.0f cameras a core\n", names[k], 1e3 / time, CAMERA_SECONDS * 1e3 / time);
-    }
+    for (uint32_t neighbours = 4; neighbours <= 8; neighbours += 4)
+        if (named == 0 || named == neighbours)
+            differing += run_table(attribute, neighbours, runs < 1 ? 1 : runs, results);
     puts(differing ? "the ways differ" : "all agree");
     return differing != 0;
 }

@@ -16,6 +16,7 @@ typedef struct {
     const char *name;
     uint32_t width, height;
     uint8_t *greys;
+    uint32_t neighbours; /* 4 or 8 */
 } picture_t;
 
 /* What a call leaves. */
@@ -30,7 +31,7 @@ typedef struct {
 uint64_t library_call(int part, const picture_t *picture, uint32_t attribute, result_t *result);
 uint64_t before_call(int part, const picture_t *picture, uint32_t attribute, result_t *result);
 
-/* Pictures of many kinds; the same for the same name and size. */
+/* Pictures of many kinds; the same for the same name and size. Their neighbours are left to be named. */
 int picture_make(picture_t *picture, const char *name, uint32_t width, uint32_t height);
 
 /* Two ways to the record in parts 1 and 2, with the list of the representatives in part 3. They answer the number of nodes. */

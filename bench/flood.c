@@ -6,7 +6,7 @@
 
 typedef struct {
     const uint8_t *greys;
-    uint32_t n, width;
+    uint32_t n, width, neighbours;
     uint32_t *numbers, *closing, *order, *nodes;
     uint32_t heads[256], tails[256], opened[256]; /* the numbers of the open nodes, n where none is open */
     uint64_t open[4];                             /* the open levels, a bit each */
@@ -38,17 +38,35 @@ static inline void push(flood_t *f, uint32_t q, int l, uint32_t k) {
     f->order[f->tails[l]++] = q;
 }
 
-/* Queues a neighbour that was not met. The answer is the level at which the flood goes on. No node is open at a brighter level. */
-static inline int visit(flood_t *f, uint32_t q, int level) {
+/*
+ * Queues the neighbour q of p if it was not met. The answer is the pixel at which the flood goes on: q where it is queued and brighter, else p.
+ * No node is open at a brighter level.
+ */
+static inline uint32_t visit(flood_t *f, uint32_t p, uint32_t q, int level) {
     if (f->numbers[q] != f->n)
-        return level;
+        return p;
     int l = f->greys[q];
     if (l > level) {
         push(f, q, l, next_number(f, l));
-        return l;
+        return q;
     }
     push(f, q, l, f->opened[l] == f->n ? next_number(f, l) : f->opened[l]);
-    return level;
+    return p;
+}
+
+/* The neighbours that share only a corner with p, from the row above to the row below and from left to right, until one moves the flood. */
+static inline uint32_t visit_corners(flood_t *f, uint32_t p, uint32_t column, int level) {
+    uint32_t up = p - f->width, down = p + f->width;
+    int has_up = p >= f->width, has_down = f->n - p > f->width, has_left = column > 0, has_right = column + 1 < f->width;
+    if (has_up && has_left && visit(f, p, up - 1, level) != p)
+        return up - 1;
+    if (has_up && has_right && visit(f, p, up + 1, level) != p)
+        return up + 1;
+    if (has_down && has_left && visit(f, p, down - 1, level) != p)
+        return down - 1;
+    if (has_down && has_right && visit(f, p, down + 1, level) != p)
+        return down + 1;
+    return p;
 }
 
 /* The neighbour q on the right, the last one: one of the same level that was not met takes the place of p, which is done. */
@@ -59,7 +77,7 @@ static inline uint32_t visit_right(flood_t *f, uint32_t p, int level) {
         f->order[f->heads[level]] = q;
         return q;
     }
-    return visit(f, q, level) != level ? q : p;
+    return visit(f, p, q, level);
 }
 
 /*
@@ -68,12 +86,17 @@ static inline uint32_t visit_right(flood_t *f, uint32_t p, int level) {
  */
 static inline uint32_t visit_around(flood_t *f, uint32_t p, int level) {
     uint32_t column = p % f->width;
-    if (p >= f->width && visit(f, p - f->width, level) != level)
+    if (p >= f->width && visit(f, p, p - f->width, level) != p)
         return p - f->width;
-    if (column > 0 && visit(f, p - 1, level) != level)
+    if (column > 0 && visit(f, p, p - 1, level) != p)
         return p - 1;
-    if (f->n - p > f->width && visit(f, p + f->width, level) != level)
+    if (f->n - p > f->width && visit(f, p, p + f->width, level) != p)
         return p + f->width;
+    if (f->neighbours == 8) {
+        uint32_t next = visit_corners(f, p, column, level);
+        if (next != p)
+            return next;
+    }
     return column + 1 < f->width ? visit_right(f, p, level) : p;
 }
 
@@ -102,7 +125,7 @@ static int close_node(flood_t *f, int level) {
 
 uint32_t flood(const picture_t *picture, uint32_t *ws) {
     size_t n = (size_t)picture->width * picture->height;
-    flood_t f = {.greys = picture->greys, .n = n, .width = picture->width};
+    flood_t f = {.greys = picture->greys, .n = n, .width = picture->width, .neighbours = picture->neighbours};
     f.numbers = ws;
     f.closing = ws + n;
     f.order = ws + 2 * n;

@@ -70,7 +70,7 @@ static uint8_t at(const char *name, uint32_t row, uint32_t column) {
 }
 
 int picture_make(picture_t *picture, const char *name, uint32_t width, uint32_t height) {
-    *picture = (picture_t){name, width, height, malloc((size_t)width * height)};
+    *picture = (picture_t){.name = name, .width = width, .height = height, .greys = malloc((size_t)width * height)};
     if (picture->greys == NULL)
         return 0;
     state = 2011;

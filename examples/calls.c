@@ -37,18 +37,19 @@ int main(void) {
     const uint8_t *picture = file + head[3];
     bytes("picture", picture, N);
 
-    uint64_t nodes = teldruf_build(picture, N, head[0], head[1], TELDRUF_AREA, workspace, TELDRUF_WORDS_A_PIXEL * N);
+    uint64_t nodes =
+        teldruf_build(picture, N, head[0], head[1], TELDRUF_AREA, TELDRUF_EDGES, workspace, TELDRUF_WORDS_A_PIXEL * N);
     printf("nodes %u\n", (unsigned)nodes);
     words("parents", workspace, N);
     words("attributes", workspace + N, N);
 
-    uint64_t opened =
-        teldruf_open(picture, N, head[0], head[1], TELDRUF_AREA, 2, workspace, TELDRUF_WORDS_A_PIXEL * N, output, N);
+    uint64_t opened = teldruf_open(picture, N, head[0], head[1], TELDRUF_AREA, TELDRUF_EDGES, 2, workspace,
+                                   TELDRUF_WORDS_A_PIXEL * N, output, N);
     printf("open %u\n", (unsigned)teldruf_cause(opened));
     bytes("opened", output, N);
 
-    uint64_t mapped = teldruf_map(picture, N, head[0], head[1], TELDRUF_AREA, steps, 4, workspace, TELDRUF_WORDS_A_PIXEL * N,
-                                  residue, N, index, N);
+    uint64_t mapped = teldruf_map(picture, N, head[0], head[1], TELDRUF_AREA, TELDRUF_CORNERS, steps, 4, workspace,
+                                  TELDRUF_WORDS_A_PIXEL * N, residue, N, index, N);
     printf("map %u\n", (unsigned)teldruf_cause(mapped));
     bytes("residue", residue, N);
     printf("index");
@@ -60,7 +61,8 @@ int main(void) {
     printf("written %u\n", (unsigned)written);
     bytes("file", buffer, (size_t)written);
 
-    uint32_t cause = teldruf_cause(teldruf_build(picture, N, head[0], head[1], 4, workspace, TELDRUF_WORDS_A_PIXEL * N));
+    uint32_t cause =
+        teldruf_cause(teldruf_build(picture, N, head[0], head[1], TELDRUF_AREA, 5, workspace, TELDRUF_WORDS_A_PIXEL * N));
     printf("refused %u: %s\n", (unsigned)cause, teldruf_cause_text(cause));
     return 0;
 }

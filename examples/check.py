@@ -34,6 +34,14 @@ PARENTS, ATTRIBUTES, NODES = [0, 2, 0, 2, 0], [5, 1, 3, 1, 0], 4
 OPENED_AT_2 = bytes([10, 20, 20, 20, 10])
 RESIDUE, INDEX = bytes([0, 10, 10, 30, 0]), [0, 4, 4, 2, 0]
 
+# Two bright pixels that share only a corner, and for each number of neighbours the tree, the opening at 2 and the maps at the step 2.
+CORNERS = Picture(2, 2, 255, bytes([9, 0, 0, 9]))
+CORNERS_FILE = b"P5\n2 2\n255\n" + CORNERS.raster
+BY_NEIGHBOURS = {
+    4: ((3, [1, 1, 1, 1], [1, 4, 0, 1]), bytes(4), (bytes([9, 0, 0, 9]), [1, 0, 0, 1])),
+    8: ((2, [1, 1, 1, 0], [2, 4, 0, 0]), bytes([9, 0, 0, 9]), (bytes(4), [0, 0, 0, 0])),
+}
+
 
 class Module(unittest.TestCase):
     def test_each_call_on_each_kind_of_buffer(self):
@@ -56,6 +64,15 @@ class Module(unittest.TestCase):
         self.assertEqual(teldruf.map(ROW, [1, 2], "height").residue, bytes([0, 20, 10, 40, 0]))
         self.assertEqual(list(teldruf.build(ROW, "width").attributes), ATTRIBUTES)
 
+    def test_corners_join_with_8_neighbours(self):
+        for neighbours, (tree, opened, maps) in BY_NEIGHBOURS.items():
+            named = [{"neighbours": neighbours}] + ([{}] if neighbours == 4 else [])
+            for words in named:
+                built, mapped = teldruf.build(CORNERS, **words), teldruf.map(CORNERS, [2], **words)
+                self.assertEqual((built.nodes, list(built.parents), list(built.attributes)), tree)
+                self.assertEqual(teldruf.open(CORNERS, 2, **words).raster, opened)
+                self.assertEqual((mapped.residue, list(mapped.index)), maps)
+
     def test_refusals_have_number_and_words(self):
         long = bytes(1048577)
         for number, call in [
@@ -64,6 +81,10 @@ class Module(unittest.TestCase):
             (2, lambda: teldruf.open(ROW._replace(height=2), 1)),
             (2, lambda: teldruf.map(ROW._replace(raster=long), [1])),
             (3, lambda: teldruf.build(ROW, 4)),
+            (3, lambda: teldruf.build(ROW, 4, neighbours=5)),
+            (17, lambda: teldruf.build(ROW, neighbours=5)),
+            (17, lambda: teldruf.open(ROW, 0, neighbours=0)),
+            (17, lambda: teldruf.map(ROW, [], neighbours=2 ** 32 - 1)),
             (4, lambda: teldruf.open(ROW, 1048578)),
             (4, lambda: teldruf.map(ROW, [])),
             (4, lambda: teldruf.map(ROW, [2, 2])),
@@ -84,8 +105,11 @@ class Module(unittest.TestCase):
             lambda bad: teldruf.build(ROW._replace(height=bad)),
             lambda bad: teldruf.write(ROW._replace(maximum=bad)),
             lambda bad: teldruf.build(ROW, bad),
+            lambda bad: teldruf.build(ROW, neighbours=bad),
             lambda bad: teldruf.open(ROW, bad),
+            lambda bad: teldruf.open(ROW, 1, neighbours=bad),
             lambda bad: teldruf.map(ROW, [bad]),
+            lambda bad: teldruf.map(ROW, [1], neighbours=bad),
         ]
         for place, call in enumerate(places):
             for bad, kind in (-1, ValueError), (2 ** 32 + 5, ValueError), (True, TypeError), (5.0, TypeError), (None, TypeError):
@@ -181,6 +205,25 @@ class Hosts(unittest.TestCase):
             index = b"".join(i.to_bytes(2, "big") for i in INDEX)
             self.assertEqual(self.contents(), [b"P5\n5 1\n255\n" + RESIDUE, b"P5\n5 1\n256\n" + index])
 
+    def test_corners_join_with_8_neighbours(self):
+        picture = self.file("corners.pgm", CORNERS_FILE)
+        for host in HOSTS:
+            for word, neighbours in ([], 4), (["neighbours=4"], 4), (["neighbours=8"], 8), (["neighbours=0000000008"], 8):
+                subprocess.run([*host, picture, *self.out, "area", *word, "2"], check=True)
+                residue, index = BY_NEIGHBOURS[neighbours][2]
+                index = b"".join(i.to_bytes(2, "big") for i in index)
+                self.assertEqual(self.contents(), [b"P5\n2 2\n255\n" + residue, b"P5\n2 2\n256\n" + index])
+
+    def test_hosts_agree_on_a_basin_with_8_neighbours(self):
+        found = []
+        for host in HOSTS:
+            for neighbours in 4, 8:
+                words = "height", f"neighbours={neighbours}", "2", "4", "8", "16"
+                subprocess.run([*host, os.path.join(FOLDER, "basin.pgm"), *self.out, *words], check=True)
+                found.append(self.contents())
+        self.assertEqual(found[:2], found[2:])
+        self.assertTrue(all(four != eight for four, eight in zip(*found[:2])))
+
     def test_every_index_is_kept(self):
         picture = self.file("long.pgm", b"P5 258 1 9\n" + b"\0" + b"\x09" * 255 + b"\0\0")
         steps = [str(step) for step in range(1, 257)]
@@ -192,11 +235,25 @@ class Hosts(unittest.TestCase):
         for word in "8x", "4294967304", "-1", "+8", "", " 8", "8 ", "0x8", "8.0", "99999999999999999999":
             self.fails(2, f"'{word}' is no step", self.picture, *self.out, "area", "1", word)
         self.fails(2, "'depth' is no attribute", self.picture, *self.out, "depth", "1")
+        for number in "", "8x", "4294967304", "-8", " 8", "8 ", "0x8", "00000000008", "four":
+            self.fails(2, f"'neighbours={number}' names no neighbours", self.picture, *self.out, "area", f"neighbours={number}", "1")
+        for words in ("1", "neighbours=8"), ("neighbours=8", "neighbours=8", "1"), ("neighbours", "1"), ("Neighbours=8", "1"):
+            self.fails(2, "' is no step", self.picture, *self.out, "area", *words)
         for host in HOSTS:
-            self.assertEqual(subprocess.run([*host, self.picture], capture_output=True).returncode, 2)
+            for words in (), (*self.out, "area"), (*self.out, "area", "neighbours=8"):
+                ended = subprocess.run([*host, self.picture, *words], capture_output=True, text=True)
+                self.assertEqual(ended.returncode, 2)
+                self.assertIn("usage: ", ended.stderr)
 
     def test_refusals(self):
-        for number, words, contents in [(4, ("0",), FILE), (4, ("4294967295",), FILE), (8, ("1",), b""), (11, ("1",), FILE[:-1])]:
+        for number, words, contents in [
+            (4, ("0",), FILE),
+            (4, ("4294967295",), FILE),
+            (8, ("1",), b""),
+            (11, ("1",), FILE[:-1]),
+            (17, ("neighbours=5", "1"), FILE),
+            (17, ("neighbours=4294967295", "0"), FILE),
+        ]:
             picture = self.file("refused.pgm", contents)
             self.fails(1, f"refused {number}: {teldruf.cause_text(number)}", picture, *self.out, "area", *words)
         self.assertFalse(any(os.path.exists(name) for name in self.out))
@@ -239,6 +296,20 @@ class Colours(unittest.TestCase):
             names = [name for name, _ in index_to_png.entries_of("area", range(1, 1 + count), colours)]
             self.assertEqual(names, ["area", "none"] + [str(step) for step in range(1, 1 + count)])
         self.assertEqual(len(set(index_to_png.colours_of(256))), 257)
+
+    def test_words_are_the_hosts(self):
+        with tempfile.TemporaryDirectory() as folder:
+            png = os.path.join(folder, "index.png")
+            command = [sys.executable, os.path.join(HERE, "index_to_png.py"), os.path.join(FOLDER, "index.pgm"), png, "area"]
+            steps = [str(2 ** k) for k in range(10)]
+            pictures = set()
+            for words in [], ["neighbours=4"], ["neighbours=8"], ["neighbours=08"]:
+                subprocess.run([*command, *words, *steps], check=True)
+                with open(png, "rb") as file:
+                    pictures.add(file.read())
+            self.assertEqual(len(pictures), 1)
+            for words in ["neighbours=8"], ["neighbours=5", *steps], ["neighbours=8x", *steps], [*steps, "neighbours=8"]:
+                self.assertEqual(subprocess.run([*command, *words], capture_output=True).returncode, 2)
 
 
 if __name__ == "__main__":

@@ -1,7 +1,7 @@
 /*
  * Maps a picture of any size within the bounds: the residue map and the index map of a PGM file, as PGM files.
  *
- *   host PICTURE RESIDUE INDEX area|height|width STEP..
+ *   host PICTURE RESIDUE INDEX area|height|width [neighbours=4|8] STEP..
  *
  * The residue map has a byte a sample, the index map two, the high one first, and the maximum 256, so that every index is kept. The
  * exit status is 0 if both maps are written, 1 if the library refuses or a file cannot be read or written, 2 if the words are wrong.
@@ -114,33 +114,54 @@ static uint32_t attribute_named(const char *word) {
     fail(WRONG_USE, "'%s' is no attribute: area, height or width", word);
 }
 
-/* A number is 1 to 10 digits and nothing else, and has 32 bits; whether it is a step, the library judges. */
-static uint32_t number_of(const char *word) {
+/* A number is 1 to 10 digits and nothing else, and has 32 bits; whether it is a step, or 4 or 8, the library judges. */
+static int is_number(const char *word, uint32_t *number) {
     size_t digits = strspn(word, "0123456789");
-    uint64_t number = 0;
+    uint64_t value = 0;
     for (size_t i = 0; i < digits && i < 10; i++)
-        number = 10 * number + (uint64_t)(word[i] - '0');
-    if (digits < 1 || digits > 10 || word[digits] != '\0' || number > UINT32_MAX)
+        value = 10 * value + (uint64_t)(word[i] - '0');
+    *number = (uint32_t)value;
+    return digits >= 1 && digits <= 10 && word[digits] == '\0' && value <= UINT32_MAX;
+}
+
+static uint32_t step_of(const char *word) {
+    uint32_t step;
+    if (!is_number(word, &step))
         fail(WRONG_USE, "'%s' is no step: steps are whole numbers from 1 to 1048577, in 1 to 10 digits and nothing else", word);
-    return (uint32_t)number;
+    return step;
+}
+
+static const char naming[] = "neighbours=";
+
+static int names_neighbours(const char *word) {
+    return strncmp(word, naming, strlen(naming)) == 0;
+}
+
+static uint32_t neighbours_named(const char *word) {
+    uint32_t neighbours;
+    if (!is_number(word + strlen(naming), &neighbours))
+        fail(WRONG_USE, "'%s' names no neighbours: neighbours=4 or neighbours=8", word);
+    return neighbours;
 }
 
 int main(int count, char **words) {
-    if (count < 6)
-        fail(WRONG_USE, "usage: PICTURE RESIDUE INDEX area|height|width STEP..");
+    int named = count > 5 && names_neighbours(words[5]), first = 5 + named;
+    if (count <= first)
+        fail(WRONG_USE, "usage: PICTURE RESIDUE INDEX area|height|width [neighbours=4|8] STEP..");
     uint32_t attribute = attribute_named(words[4]);
-    size_t steps_len = (size_t)count - 5;
+    uint32_t neighbours = named ? neighbours_named(words[5]) : TELDRUF_EDGES;
+    size_t steps_len = (size_t)(count - first);
     uint32_t *steps = lend(steps_len, sizeof *steps);
     for (size_t i = 0; i < steps_len; i++)
-        steps[i] = number_of(words[5 + i]);
+        steps[i] = step_of(words[(size_t)first + i]);
 
     picture_t picture = read_picture(words[1]);
     size_t n = picture.n, workspace_len = TELDRUF_WORDS_A_PIXEL * n;
     uint32_t *workspace = lend(workspace_len, sizeof *workspace);
     uint8_t *residue = lend(n, 1);
     uint16_t *index = lend(n, sizeof *index);
-    accepted(teldruf_map(picture.greys, n, picture.width, picture.height, attribute, steps, steps_len, workspace, workspace_len,
-                         residue, n, index, n),
+    accepted(teldruf_map(picture.greys, n, picture.width, picture.height, attribute, neighbours, steps, steps_len, workspace,
+                         workspace_len, residue, n, index, n),
              words[1]);
     write_residue(words[2], &picture, residue);
     write_index(words[3], &picture, index);

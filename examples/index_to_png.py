@@ -1,11 +1,13 @@
 """Turns an index map, as the hosts write it, into a PNG file for people: a colour a step, and a legend that names the steps.
 
-    python3 examples/index_to_png.py INDEX.pgm INDEX.png area|height|width STEP..
+    python3 examples/index_to_png.py INDEX.pgm INDEX.png area|height|width [neighbours=4|8] STEP..
 
-The words after the files are those that the host was given. A pixel without residue is dark grey, `none` in the legend. Up to 16
-steps have a colour and a name each; more share a ramp of colours, of which the legend names the first and last step of each part.
+The words after the files are those that the host was given; the neighbours change nothing here. A pixel without residue is dark
+grey, `none` in the legend. Up to 16 steps have a colour and a name each; more share a ramp of colours, of which the legend names
+the first and last step of each part.
 """
 
+import re
 import sys
 
 from pgm_to_png import RGB, png, read_pgm, run, wrong_use
@@ -123,10 +125,11 @@ def index_of(raster):
 
 
 def main(words):
-    if len(words) < 4 or not all(word.isdecimal() for word in words[3:]) or words[2] not in ("area", "height", "width"):
+    first = 4 if len(words) > 3 and re.fullmatch("neighbours=0{0,9}[48]", words[3]) else 3  # no other word gives a map
+    if len(words) <= first or not all(word.isdecimal() for word in words[first:]) or words[2] not in ("area", "height", "width"):
         wrong_use(__doc__)
     width, height, raster = read_pgm(words[0], MOST_INDEX)
-    index, steps = index_of(raster), [int(word) for word in words[3:]]
+    index, steps = index_of(raster), [int(word) for word in words[first:]]
     if len(raster) != 2 * width * height or not index or max(index) > len(steps):
         sys.exit(f"{words[0]}: not an index map of {len(steps)} steps")
     with open(words[1], "wb") as file:

@@ -3,7 +3,7 @@
  *
  * The library allocates nothing and keeps nothing between calls: it works in the memory that a call lends it. A picture is a run of
  * n = width x height bytes, row by row from the top left; a position is row x width + column. Width and height are 1 to 4,096, n is
- * at most 1,048,576. Neighbours share an edge.
+ * at most 1,048,576. Neighbours share an edge or, where a call names 8 of them and not 4, a corner.
  *
  * Every call answers 64 bits. Below 2^32 the call was accepted, and the answer is its value. Otherwise it was refused, the answer is
  * the cause's number times 2^32, and all lent memory is as it was. The first cause in the order named with a call decides.
@@ -34,7 +34,8 @@ enum {
     TELDRUF_HEADER = 9,
     TELDRUF_MAXIMUM = 10,
     TELDRUF_RASTER_LENGTH = 11,
-    TELDRUF_SAMPLE = 12
+    TELDRUF_SAMPLE = 12,
+    TELDRUF_NEIGHBOURS = 17
 };
 
 /* Attributes of a connected set of pixels. */
@@ -42,6 +43,12 @@ enum {
     TELDRUF_AREA = 1,   /* pixels */
     TELDRUF_HEIGHT = 2, /* lowest row less highest row, plus 1 */
     TELDRUF_WIDTH = 3   /* the same of columns */
+};
+
+/* The neighbours of a pixel, which has fewer at the border of the picture. */
+enum {
+    TELDRUF_EDGES = 4,  /* the pixels that share an edge with it */
+    TELDRUF_CORNERS = 8 /* and those that share a corner */
 };
 
 enum {
@@ -86,6 +93,8 @@ static inline const char *teldruf_cause_text(uint32_t number) {
         return "raster bytes not width x height";
     case TELDRUF_SAMPLE:
         return "a sample above the maximum";
+    case TELDRUF_NEIGHBOURS:
+        return "neighbourhood neither 4 nor 8";
     default:
         return "no cause of this library";
     }
@@ -107,34 +116,36 @@ uint64_t teldruf_write_pgm(const uint8_t *picture, size_t picture_len, uint32_t 
                            uint8_t *buffer, size_t buffer_len);
 
 /*
- * Builds the max-tree of a picture. Lent: the picture, n bytes, which are only read; and the workspace, exactly 6n words, which may
- * hold anything. Accepted: the answer is the number of nodes, and the workspace holds the record: n parents, n attributes, 4n zeros.
- * A node is represented by its own pixel of lowest position. A representative's parent is the position of its parent's
- * representative (the root's is its own) and its attribute is the node's; any other pixel's parent is its representative and its
- * attribute is 0. Refused, in this order: 1, 2, 3, 5.
+ * Builds the max-tree of a picture; the neighbours named decide what is connected. Lent: the picture, n bytes, which are only read;
+ * and the workspace, exactly 6n words, which may hold anything. Accepted: the answer is the number of nodes, and the workspace holds
+ * the record: n parents, n attributes, 4n zeros. A node is represented by its own pixel of lowest position. A representative's
+ * parent is the position of its parent's representative (the root's is its own) and its attribute is the node's; any other pixel's
+ * parent is its representative and its attribute is 0. Refused, in this order: 1, 2, 3, 17, 5.
  */
 uint64_t teldruf_build(const uint8_t *picture, size_t picture_len, uint32_t width, uint32_t height, uint32_t attribute,
-                       uint32_t *workspace, size_t workspace_len);
+                       uint32_t neighbours, uint32_t *workspace, size_t workspace_len);
 
 /*
- * Opens a picture at a threshold from 1 to 1,048,577: a node other than the root goes if its attribute is below the threshold. Lent:
- * the picture, n bytes, which are only read; the workspace, exactly 6n words; and the output, exactly n bytes. Both may hold
- * anything. Accepted: the answer is 0, the output holds the opened picture and the workspace the record of the picture given.
- * Refused, in this order: 1, 2, 3, 4, 5, 6.
+ * Opens a picture at a threshold from 1 to 1,048,577: a node other than the root goes if its attribute is below the threshold; the
+ * nodes are those that building finds with the same neighbours. Lent: the picture, n bytes, which are only read; the workspace,
+ * exactly 6n words; and the output, exactly n bytes. Both may hold anything. Accepted: the answer is 0, the output holds the opened
+ * picture and the workspace the record of the picture given. Refused, in this order: 1, 2, 3, 17, 4, 5, 6.
  */
 uint64_t teldruf_open(const uint8_t *picture, size_t picture_len, uint32_t width, uint32_t height, uint32_t attribute,
-                      uint32_t threshold, uint32_t *workspace, size_t workspace_len, uint8_t *output, size_t output_len);
+                      uint32_t neighbours, uint32_t threshold, uint32_t *workspace, size_t workspace_len, uint8_t *output,
+                      size_t output_len);
 
 /*
  * Gives the residue map and the index map of a picture for a list of 1 to 256 strictly rising steps, each from 1 to 1,048,577. Lent:
  * the picture, n bytes, and the steps, both only read; the workspace, exactly 6n words; the residue map, exactly n bytes; and the
  * index map, exactly n entries of 16 bits. The last three may hold anything. Accepted: the answer is 0, the residue map holds at
- * each pixel the largest fall from one opening to the next, the index map the largest place in the list, from 1, of a step with that
- * fall, or 0 where it is 0, and the workspace the record of the picture. Refused, in this order: 1, 2, 3, 4, 5, 6.
+ * each pixel the largest fall from one opening with these neighbours to the next, the index map the largest place in the list, from
+ * 1, of a step with that fall, or 0 where it is 0, and the workspace the record of the picture. Refused, in this order: 1, 2, 3, 17,
+ * 4, 5, 6.
  */
 uint64_t teldruf_map(const uint8_t *picture, size_t picture_len, uint32_t width, uint32_t height, uint32_t attribute,
-                     const uint32_t *steps, size_t steps_len, uint32_t *workspace, size_t workspace_len, uint8_t *residue,
-                     size_t residue_len, uint16_t *index, size_t index_len);
+                     uint32_t neighbours, const uint32_t *steps, size_t steps_len, uint32_t *workspace, size_t workspace_len,
+                     uint8_t *residue, size_t residue_len, uint16_t *index, size_t index_len);
 
 #ifdef __cplusplus
 }

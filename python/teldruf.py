@@ -4,6 +4,8 @@
     picture = teldruf.read(pathlib.Path("picture.pgm").read_bytes())
     residue, index = teldruf.map(picture, [8, 16, 32, 64, 128])
 
+Neighbours are the 4 pixels that share an edge with a pixel; with neighbours=8 those that share a corner are neighbours too.
+
 A picture is a Picture, whose raster is bytes or another buffer of bytes (bytearray, memoryview, numpy array of uint8), or a buffer
 of bytes with rows and columns, such as a numpy array of two dimensions. Results are bytes or arrays, row by row; where the greys
 came as a numpy array they are numpy arrays of its shape.
@@ -42,6 +44,7 @@ _CAUSES = {
     10: "maximum 0 or above 255",
     11: "raster bytes not width x height",
     12: "a sample above the maximum",
+    17: "neighbourhood neither 4 nor 8",
 }
 
 _MOST_PIXELS = 1048576
@@ -107,33 +110,35 @@ def write(picture):
     return buffer[:count].tobytes()
 
 
-def build(picture, attribute="area"):
+def build(picture, attribute="area", *, neighbours=4):
     """The max-tree of a picture: a Tree of its number of nodes, parents and attributes."""
     picture, greys = _taken(picture)
     workspace = _workspace(greys)
-    nodes = _call("build", *_lend(greys), picture.width, picture.height, _attribute(attribute), *_lend(workspace))
+    nodes = _call("build", *_lend(greys), picture.width, picture.height, _attribute(attribute), _neighbours(neighbours),
+                  *_lend(workspace))
     n = len(greys)
     return Tree(nodes, _like(picture.raster, workspace[:n]), _like(picture.raster, workspace[n:2 * n]))
 
 
-def open(picture, threshold, attribute="area"):
+def open(picture, threshold, attribute="area", *, neighbours=4):
     """The picture opened at a threshold: a Picture if a Picture is given, else its greys."""
     taken, greys = _taken(picture)
     threshold = _word(threshold, "a threshold")
     workspace, output = _workspace(greys), _entries("B", greys)
-    _call("open", *_lend(greys), taken.width, taken.height, _attribute(attribute), threshold, *_lend(workspace), *_lend(output))
+    _call("open", *_lend(greys), taken.width, taken.height, _attribute(attribute), _neighbours(neighbours), threshold,
+          *_lend(workspace), *_lend(output))
     opened = taken._replace(raster=_like(taken.raster, output))
     return opened if isinstance(picture, Picture) else opened.raster
 
 
-def map(picture, steps, attribute="area"):
+def map(picture, steps, attribute="area", *, neighbours=4):
     """The Maps of a picture, residue and index, for strictly rising steps. An index is a place in the list: its size is
     steps[index - 1]."""
     picture, greys = _taken(picture)
     listed = array("I", [_word(step, "a step") for step in steps])
     workspace, residue, index = _workspace(greys), _entries("B", greys), _entries("H", greys)
-    _call("map", *_lend(greys), picture.width, picture.height, _attribute(attribute), *_lend(listed), *_lend(workspace),
-          *_lend(residue), *_lend(index))
+    _call("map", *_lend(greys), picture.width, picture.height, _attribute(attribute), _neighbours(neighbours), *_lend(listed),
+          *_lend(workspace), *_lend(residue), *_lend(index))
     return Maps(_like(picture.raster, residue), _like(picture.raster, index))
 
 
@@ -156,6 +161,10 @@ def _attribute(attribute):
     if attribute not in ATTRIBUTES:
         raise ValueError(f"an attribute is {', '.join(ATTRIBUTES)}, not {attribute!r}")
     return ATTRIBUTES[attribute]
+
+
+def _neighbours(neighbours):
+    return _word(neighbours, "a number of neighbours")
 
 
 def _view(buffer, what):
@@ -231,9 +240,9 @@ def load(path):
     signatures = {
         "read_pgm": run + [ctypes.c_void_p],
         "write_pgm": picture + [word] + run,
-        "build": picture + [word] + run,
-        "open": picture + [word, word] + run + run,
-        "map": picture + [word] + run + run + run + run,
+        "build": picture + [word, word] + run,
+        "open": picture + [word, word, word] + run + run,
+        "map": picture + [word, word] + run + run + run + run,
     }
     for name, arguments in signatures.items():
         try:
