@@ -5,7 +5,7 @@ ghost use Prim.Native.Nat.{_+_, _%_, _<_};
 ghost use lib.Dec.{eqb};
 ghost use lib.ListN.{length};
 ghost use Rattle.levels.specs.Workspace.{Sized};
-ghost use Rattle.visits.specs.Visits.{held, at-entry, at-exit, Standing, Visiting, above, left-of, right-of, below, beside};
+ghost use Rattle.visits.specs.Visits.{held, at-entry, at-exit, Standing, Visiting, above, left-of, right-of, below};
 ghost use Rattle.visits.specs.Visits.{corners-above, corners-below, corners, Based, Visited, unmet-at, Met-but, VisitedAround};
 use grid::Grid;
 
@@ -133,52 +133,6 @@ fn visit_right(
     visit(picture, grid, base + 1, p, level, ws, heads, tails, opened)
 }
 
-// Both of them.
-fn visit_beside(
-    picture: &[u8],
-    grid: Grid,
-    column: usize,
-    base: usize,
-    p: usize,
-    level: usize,
-    ws: &mut [u32],
-    heads: &[usize; 256],
-    tails: &mut [usize; 256],
-    opened: &mut [usize; 262],
-) -> usize
-    requires { ⌜ Standing grid (now picture) (held ws heads tails opened) level p ⌝ }
-    requires { ⌜ Based grid (now picture) p base column ⌝ }
-    ensures { λ r. ⌜ Visited grid (now (picture .entry)) (at-entry ws heads tails opened) (at-exit ws heads tails opened) p r (beside grid base) ⌝ }
-{
-    let left = visit_left(
-        picture,
-        grid,
-        column,
-        base,
-        p,
-        level,
-        ws,
-        heads,
-        tails,
-        opened,
-    );
-    if left != p {
-        return left;
-    }
-    visit_right(
-        picture,
-        grid,
-        column,
-        base,
-        p,
-        level,
-        ws,
-        heads,
-        tails,
-        opened,
-    )
-}
-
 // The corners of p in the row above.
 fn visit_corners_above(
     picture: &[u8],
@@ -200,11 +154,27 @@ fn visit_corners_above(
     if p < width {
         return p;
     }
-    visit_beside(
+    let base = p - width;
+    let left = visit_left(
         picture,
         grid,
         column,
-        p - width,
+        base,
+        p,
+        level,
+        ws,
+        heads,
+        tails,
+        opened,
+    );
+    if left != p {
+        return left;
+    }
+    visit_right(
+        picture,
+        grid,
+        column,
+        base,
         p,
         level,
         ws,
@@ -235,11 +205,27 @@ fn visit_corners_below(
     if picture.len() - p <= width {
         return p;
     }
-    visit_beside(
+    let base = p + width;
+    let left = visit_left(
         picture,
         grid,
         column,
-        p + width,
+        base,
+        p,
+        level,
+        ws,
+        heads,
+        tails,
+        opened,
+    );
+    if left != p {
+        return left;
+    }
+    visit_right(
+        picture,
+        grid,
+        column,
+        base,
         p,
         level,
         ws,

@@ -1,10 +1,16 @@
--- `visit_corners_above` meets its contract. A pixel of the first row has no corners above.
+-- `visit_corners_above` meets its contract. A pixel of the first row has no corners above; those of another are beside the pixel above it.
+use Prim.Native.Nat.{_-_}
 use mathlib.Core.Logic.{inl}
-use Rattle.visits.proofs.Visits.{covers}
+use Rattle.visits.specs.Visits.{Based}
+use Rattle.visits.proofs.Visits.{still, moved, covers, visits, same-words}
 use Rattle.visits.proofs.Beside.{no-corners-above, based-above, above-beside}
 use borrow.Author.Needs.{needs}
 use Rattle.visits.proofs.visit_corners_above.Statement.{statement}
 use Rattle.visits.proofs.visit_corners_above.Tie as tie
+
+based : (c : tie.Else1) → Based (c .before .before .before .before .args .grid) (c .before .before .before .before .args .picture .now) (c .before .before .before .before .args .p) (c .before .before .before .before .args .p - c .before .before .before .before .args .grid .width) (c .before .before .before .before .args .column)
+based c =
+    based-above (c .before .before .before .before .pre .0) (c .before .before .before .before .pre .1 .0) (c .before .before .before .before .pre .1 .1) (c .if1 .left)
 
 cast-width : tie.Need-cast-width
 cast-width c = search needs
@@ -12,15 +18,36 @@ cast-width c = search needs
 returns : tie.Need-returns
 returns c = no-corners-above (c .before .before .before .before .pre .0) (c .if1 .taken)
 
-visit-beside-requires : tie.Need-visit-beside-requires
-visit-beside-requires c κs = (c .before .before .before .before .before .before .before .pre .0, based-above (c .before .before .before .before .before .before .before .pre .0) (c .before .before .before .before .before .before .before .pre .1 .0) (c .before .before .before .before .before .before .before .pre .1 .1) (c .before .before .before .if1 .left))
+visit-left-requires : tie.Need-visit-left-requires
+visit-left-requires c κs = (c .before .before .before .before .before .before .before .pre .0, based (c .before .before .before))
 
 same-length : tie.Need-same-length
-same-length c = search needs
+same-length c = same-words (c .before .before .before .visit-left .ensures) (c .before .before .before .before .before .before .before .before .before .before .before .pre .0)
 
 returns-2 : tie.Need-returns-2
-returns-2 c = covers (c .before .before .visit-beside .ensures) (λ x hx e. inl (above-beside (c .before .before .before .before .before .before .before .before .before .before .pre .0) (c .before .before .before .before .before .before .if1 .left) x e))
+returns-2 c = moved (c .before .before .before .visit-left .ensures) (c .if2 .taken)
+
+visit-right-requires : tie.Need-visit-right-requires
+visit-right-requires c κs = (still (c .before .before .before .before .before .before .visit-left .ensures) (c .before .before .before .before .before .before .before .before .before .before .before .before .before .before .pre .0) (c .before .before .before .if2 .left), based (c .before .before .before .before .before .before .before .before .before .before))
+
+same-length-2 : tie.Need-same-length-2
+same-length-2 c = search needs
+
+returns-3 : tie.Need-returns-3
+returns-3 c =
+    covers
+    (visits (c .before .before .before .before .before .before .before .before .before .visit-left .ensures) (c .before .before .before .before .before .before .if2 .left) (c .before .before .visit-right .ensures))
+    (λ x hx e. inl (above-beside (c .before .before .before .before .before .before .before .before .before .before .before .before .before .before .before .before .before .pre .0) (c .before .before .before .before .before .before .before .before .before .before .before .before .before .if1 .left) x e))
 
 pub visit-corners-above-spec : {M : Type 1} → statement M
 visit-corners-above-spec =
-    tie.close (tie.spec cast-width returns visit-beside-requires same-length returns-2)
+    tie.close
+    (tie.spec
+    cast-width
+    returns
+    visit-left-requires
+    same-length
+    returns-2
+    visit-right-requires
+    same-length-2
+    returns-3)
