@@ -1,9 +1,16 @@
-// The scope, "Causes and their numbers": what is refused, in its order.
+// The scope, "Causes and their numbers", and the request that a call names 4 or 8 neighbours: what
+// is refused, in its order.
 
 pub const MOST_SIDE: u64 = 4096;
 pub const MOST_PIXELS: u64 = 1_048_576;
 pub const MOST_THRESHOLD: u32 = 1_048_577;
 pub const MOST_STEPS: usize = 256;
+
+/// How many neighbours a call may name.
+pub const NEIGHBOURHOODS: [u32; 2] = [4, 8];
+
+/// The causes of a call on a picture, in their order.
+pub const ORDER: [u32; 7] = [1, 2, 3, 17, 4, 5, 6];
 
 /// n, or 1 for a side or an n out of bounds.
 pub fn pixels(width: u32, height: u32) -> Result<usize, u32> {
@@ -31,23 +38,30 @@ pub struct Named<'a> {
     pub height: u32,
     pub picture: usize,
     pub attribute: u32,
+    pub neighbours: u32,
     pub steps: Option<&'a [u32]>,
     pub workspace: usize,
     pub outputs: &'a [usize],
 }
 
-/// The first cause of 1 to 6 that applies.
+/// Does this cause, other than 1, apply to a call whose sides name n pixels?
+fn applies(call: &Named, n: usize, cause: u32) -> bool {
+    match cause {
+        2 => call.picture != n,
+        3 => !(1..=3).contains(&call.attribute),
+        17 => !NEIGHBOURHOODS.contains(&call.neighbours),
+        4 => call.steps.is_some_and(|steps| !is_step_list(steps)),
+        5 => call.workspace != 6 * n,
+        _ => call.outputs.iter().any(|entries| *entries != n),
+    }
+}
+
+/// The first cause that applies.
 pub fn refusal(call: &Named) -> Result<(), u32> {
     let n = pixels(call.width, call.height)?;
-    let causes = [
-        (call.picture != n, 2),
-        (!(1..=3).contains(&call.attribute), 3),
-        (call.steps.is_some_and(|steps| !is_step_list(steps)), 4),
-        (call.workspace != 6 * n, 5),
-        (call.outputs.iter().any(|entries| *entries != n), 6),
-    ];
-    match causes.iter().find(|(applies, _)| *applies) {
-        Some((_, number)) => Err(*number),
+    let mut further = ORDER.into_iter().skip(1);
+    match further.find(|cause| applies(call, n, *cause)) {
+        Some(number) => Err(number),
         None => Ok(()),
     }
 }

@@ -1,10 +1,13 @@
 // Chains of opening calls, good and bad. A chain's picture equals a single opening exactly when no
 // node but the root has its attribute in the range between the two thresholds; both are levelings;
-// and where the accepted thresholds are a step list, the falls are what the map call writes.
+// and where the accepted thresholds are a step list, the falls are what the map call writes. One
+// neighbourhood is named in all accepted calls, the single opening and the map call, and levelings
+// are judged by it. A list that mixes neighbourhoods is no chain: only each of its calls by itself
+// is held to the definitions.
 
 use crate::calls::{attribute_values, check_map, check_open, step_list, threshold};
 use crate::calls::{ByDefinition, Call};
-use crate::causes::{is_step_list, refusal};
+use crate::causes::{is_step_list, refusal, NEIGHBOURHOODS, ORDER};
 use crate::damage;
 use crate::definition::{is_leveling, largest_falls, Levels, Picture};
 use crate::pictures;
@@ -13,11 +16,14 @@ use crate::report::Report;
 
 struct Chain {
     original: Picture,
+    /// Those of the original, under the chain's neighbourhood.
     levels: Levels,
     attribute: u32,
     /// The original and the output of each accepted call.
     pictures: Vec<Vec<u8>>,
     accepted: Vec<u32>,
+    /// A call was accepted under the other neighbourhood: the list is no chain under this one.
+    mixed: bool,
     calls: usize,
 }
 
@@ -29,10 +35,17 @@ impl Chain {
         }
     }
 
-    /// Makes one call on the chain's picture.
+    fn largest(&self) -> u32 {
+        self.accepted.iter().copied().max().unwrap_or(0)
+    }
+
+    /// Makes one call on the chain's picture. It is held to the neighbourhood that it names; if it
+    /// names none it is refused, and nothing is asked of the levels.
     fn call(&mut self, report: &mut Report, random: &mut Random, call: &Call) {
         let current = self.current();
-        let levels = Levels::of(&current);
+        let named = call.frame.neighbours;
+        let known = NEIGHBOURHOODS.contains(&named);
+        let levels = Levels::of(&current, if known { named } else { 4 });
         let truth = ByDefinition {
             picture: &current,
             levels: &levels,
@@ -41,23 +54,27 @@ impl Chain {
         if let Some(output) = check_open(report, random, call, &truth) {
             self.pictures.push(output);
             self.accepted.push(call.steps[0]);
+            self.mixed |= named != self.levels.neighbours;
         }
     }
 
     fn shown(&self) -> String {
         format!(
-            "chain of {:?}: {:?} attribute {}",
-            self.accepted, self.original, self.attribute
+            "chain of {:?}: {:?} attribute {}, {} neighbours",
+            self.accepted, self.original, self.attribute, self.levels.neighbours
         )
     }
 }
 
-/// A call that is refused, on the picture that the chain hands on.
+/// A call that is refused, on the picture that the chain hands on, by any attribute and under any
+/// neighbourhood.
 fn bad_call(random: &mut Random, good: &Call) -> Call {
     loop {
         let mut call = good.clone();
+        call.frame.attribute = random.between(1, 3) as u32;
+        call.frame.neighbours = random.pick(&NEIGHBOURHOODS);
         for _ in 0..random.between(1, 3) {
-            match random.between(1, 6) as u32 {
+            match random.pick(&ORDER) {
                 2 => {
                     let n = call.picture.len();
                     (call.frame.width, call.frame.height) = damage::other_sides(random, n);
@@ -86,7 +103,8 @@ fn thresholds(random: &mut Random, values: &[u32]) -> Vec<u32> {
 
 fn make(report: &mut Report, random: &mut Random, case: usize) -> Chain {
     let original = pictures::small(random, case);
-    let levels = Levels::of(&original);
+    let neighbours = random.pick(&NEIGHBOURHOODS);
+    let levels = Levels::of(&original, neighbours);
     let attribute = random.between(1, 3) as u32;
     let values = attribute_values(&levels, attribute);
     let mut chain = Chain {
@@ -95,18 +113,25 @@ fn make(report: &mut Report, random: &mut Random, case: usize) -> Chain {
         levels,
         attribute,
         accepted: Vec::new(),
+        mixed: false,
         calls: 0,
     };
+    let mixing = random.chance(1, 10);
     let mut due = thresholds(random, &values);
     due.truncate(if random.chance(1, 20) { 300 } else { 20 });
     due.reverse();
     while !due.is_empty() || random.chance(1, 3) {
         if due.is_empty() || random.chance(1, 4) {
-            let good = Call::good(&chain.current(), attribute, vec![1]);
+            let good = Call::good(&chain.current(), attribute, neighbours, vec![1]);
             let bad = bad_call(random, &good);
             chain.call(report, random, &bad);
         } else if let Some(t) = due.pop() {
-            let good = Call::good(&chain.current(), attribute, vec![t]);
+            let named = if mixing {
+                random.pick(&NEIGHBOURHOODS)
+            } else {
+                neighbours
+            };
+            let good = Call::good(&chain.current(), attribute, named, vec![t]);
             chain.call(report, random, &good);
         }
     }
@@ -119,11 +144,12 @@ fn check_single(report: &mut Report, random: &mut Random, chain: &Chain, single:
         picture: &chain.original,
         levels: &chain.levels,
     };
-    let call = Call::good(&chain.original, chain.attribute, vec![single]);
+    let neighbours = chain.levels.neighbours;
+    let call = Call::good(&chain.original, chain.attribute, neighbours, vec![single]);
     let Some(opened) = check_open(report, random, &call, &truth) else {
         return;
     };
-    let largest = chain.accepted.iter().copied().max().unwrap_or(0);
+    let largest = chain.largest();
     let range = largest.min(single)..largest.max(single);
     let between = chain
         .levels
@@ -133,7 +159,7 @@ fn check_single(report: &mut Report, random: &mut Random, chain: &Chain, single:
     let fault = (equal == between).then(|| format!("single opening at {single}: equal is {equal}"));
     report.met("single opening", u64::from(between));
     report.check(fault, || chain.shown());
-    let leveling = is_leveling(&chain.original, &opened);
+    let leveling = is_leveling(&chain.original, neighbours, &opened);
     let fault = (!leveling).then(|| format!("opening at {single} is no leveling"));
     report.check(fault, || chain.shown());
 }
@@ -146,32 +172,71 @@ fn check_falls(report: &mut Report, random: &mut Random, chain: &Chain) {
         picture: &chain.original,
         levels: &chain.levels,
     };
-    let call = Call::good(&chain.original, chain.attribute, chain.accepted.clone());
+    let (neighbours, steps) = (chain.levels.neighbours, chain.accepted.clone());
+    let call = Call::good(&chain.original, chain.attribute, neighbours, steps);
     let written = check_map(report, random, &call, &truth);
     let falls = largest_falls(&chain.pictures);
     let fault = (written != Some(falls)).then(|| String::from("falls are not the maps"));
     report.check(fault, || chain.shown());
 }
 
+fn check_chain(report: &mut Report, random: &mut Random, chain: &Chain) {
+    let new = chain.current().greys;
+    let leveling = is_leveling(&chain.original, chain.levels.neighbours, &new);
+    let fault = (!leveling).then(|| String::from("the chain's picture is no leveling"));
+    report.check(fault, || chain.shown());
+    let values = attribute_values(&chain.levels, chain.attribute);
+    for _ in 0..3 {
+        let single = threshold(random, &values);
+        check_single(report, random, chain, single);
+    }
+    if !chain.accepted.is_empty() {
+        check_single(report, random, chain, chain.largest());
+    }
+    check_falls(report, random, chain);
+}
+
+/// A picture whose corner breaks off under 4: opened there it is no leveling under 8, and a list
+/// with this call is no chain under 8, where the single opening is another.
+fn check_corner(report: &mut Report, random: &mut Random) {
+    let picture = Picture {
+        width: 3,
+        height: 2,
+        greys: vec![9, 0, 0, 0, 5, 5],
+    };
+    let cases = [
+        (4, [0, 0, 0, 0, 5, 5], [true, false]),
+        (8, [5, 0, 0, 0, 5, 5], [true, true]),
+    ];
+    for (neighbours, due, levelings) in cases {
+        let levels = Levels::of(&picture, neighbours);
+        let truth = ByDefinition {
+            picture: &picture,
+            levels: &levels,
+        };
+        let call = Call::good(&picture, 1, neighbours, vec![2]);
+        let opened = check_open(report, random, &call, &truth);
+        let judged = NEIGHBOURHOODS.map(|by| is_leveling(&picture, by, &due));
+        let same = opened == Some(due.to_vec()) && judged == levelings;
+        let fault = (!same).then(|| format!("{opened:?}, a leveling under 4 and 8: {judged:?}"));
+        report.check(fault, || format!("a corner, {neighbours} neighbours"));
+    }
+}
+
 pub fn run(report: &mut Report, seed: u64, cases: usize) {
-    let mut calls = 0;
+    check_corner(report, &mut Random::for_case(seed, 2, u64::MAX));
+    let (mut calls, mut mixed) = (0, 0);
     for case in 0..cases {
         let mut random = Random::for_case(seed, 2, case as u64);
         let chain = make(report, &mut random, case);
-        let leveling = is_leveling(&chain.original, &chain.current().greys);
-        let fault = (!leveling).then(|| String::from("the chain's picture is no leveling"));
-        report.check(fault, || chain.shown());
-        let values = attribute_values(&chain.levels, chain.attribute);
-        for _ in 0..3 {
-            let single = threshold(&mut random, &values);
-            check_single(report, &mut random, &chain, single);
-        }
-        if let Some(largest) = chain.accepted.iter().copied().max() {
-            check_single(report, &mut random, &chain, largest);
-        }
-        check_falls(report, &mut random, &chain);
         calls += chain.calls;
+        if chain.mixed {
+            mixed += 1;
+        } else {
+            check_chain(report, &mut random, &chain);
+        }
     }
-    println!("  {calls} calls in {cases} chains; single openings equal (0) or not (1):");
+    println!("  {calls} calls in {cases} lists, of which {mixed} mix neighbourhoods;");
+    println!("  single openings equal to chains (0) or not (1):");
     report.check_all_met("single opening", &[0, 1]);
 }

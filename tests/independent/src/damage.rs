@@ -1,15 +1,16 @@
 // Ways to make a cause apply to a call.
 
 use crate::calls::Call;
-use crate::causes::{pixels, MOST_STEPS, MOST_THRESHOLD};
+use crate::causes::{pixels, MOST_STEPS, MOST_THRESHOLD, NEIGHBOURHOODS};
 use crate::random::Random;
 
-/// Makes cause 1 to 6 apply to the call, whatever else does.
+/// Makes one of the causes apply to the call, whatever else does.
 pub fn apply(random: &mut Random, call: &mut Call, cause: u32) {
     match cause {
         1 => sides(random, call),
         2 => picture(random, call),
         3 => call.frame.attribute = wrong_attribute(random),
+        17 => call.frame.neighbours = wrong_neighbours(random),
         4 => steps(random, call),
         5 => call.workspace = other_length(random, call.workspace, call.picture.len()),
         _ => outputs(random, call),
@@ -31,6 +32,20 @@ fn wrong_attribute(random: &mut Random) -> u32 {
         (1 << 24) + 2,
         u32::MAX,
     ])
+}
+
+/// Numbers that are neither 4 nor 8: small ones, large ones, and 4 or 8 with one bit turned.
+pub fn all_wrong_neighbours() -> Vec<u32> {
+    let mut numbers = vec![1, 2, 3, 7, 11, 255, 259, 1 << 31, u32::MAX];
+    for number in NEIGHBOURHOODS {
+        numbers.push(number.wrapping_neg());
+        numbers.extend((0..32).map(|bit| number ^ (1 << bit)));
+    }
+    numbers
+}
+
+fn wrong_neighbours(random: &mut Random) -> u32 {
+    random.pick(&all_wrong_neighbours())
 }
 
 /// Sides whose product is too large, by 3 at the least, or wraps around to 0 or a small number.

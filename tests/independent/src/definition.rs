@@ -1,6 +1,8 @@
 // The scope, "Picture, nodes, openings", "Steps and maps" and "Tree record", word for word: level
 // sets, components by flood fill, nodes, representatives, parents, openings, residues. Nothing here
-// is meant to be fast.
+// is meant to be fast. How many neighbours there are, 4 or 8, is named wherever it matters.
+
+use crate::causes::NEIGHBOURHOODS;
 
 #[derive(Clone, Debug)]
 pub struct Picture {
@@ -18,23 +20,19 @@ impl Picture {
         *self.greys.iter().min().expect("a picture has a pixel")
     }
 
-    /// Neighbours share an edge.
-    pub fn neighbours(&self, p: usize) -> Vec<usize> {
-        let (row, column) = (p / self.width, p % self.width);
-        let mut found = Vec::with_capacity(4);
-        if row > 0 {
-            found.push(p - self.width);
-        }
-        if column > 0 {
-            found.push(p - 1);
-        }
-        if column + 1 < self.width {
-            found.push(p + 1);
-        }
-        if row + 1 < self.height {
-            found.push(p + self.width);
-        }
-        found
+    /// Of 4 neighbours each shares an edge with p, of 8 an edge or a corner.
+    pub fn neighbours(&self, p: usize, number: u32) -> impl Iterator<Item = usize> {
+        assert!(NEIGHBOURHOODS.contains(&number));
+        let (width, row, column) = (self.width, p / self.width, p % self.width);
+        let near = |at: usize, side: usize| at.saturating_sub(1)..(at + 2).min(side);
+        let columns = near(column, width);
+        let places = near(row, self.height).flat_map(move |r| columns.clone().map(move |c| (r, c)));
+        let shares = move |&(r, c): &(usize, usize)| match (r == row, c == column) {
+            (true, true) => false,
+            (false, false) => number == 8,
+            _ => true,
+        };
+        places.filter(shares).map(move |(r, c)| r * width + c)
     }
 }
 
@@ -51,6 +49,8 @@ pub struct Component {
 /// The components of the level sets at every grey that occurs, darkest grey first. At a grey that
 /// does not occur the level set is that of the next one that does, and no component is a node.
 pub struct Levels {
+    /// How many neighbours join the components.
+    pub neighbours: u32,
     pub components: Vec<Component>,
     /// For each pixel, the components that hold it, brightest level first.
     pub holding: Vec<Vec<usize>>,
@@ -74,12 +74,18 @@ impl Record {
     }
 }
 
-fn flood_fill(picture: &Picture, level: u8, from: usize, seen: &mut [bool]) -> Vec<usize> {
+fn flood_fill(
+    picture: &Picture,
+    neighbours: u32,
+    level: u8,
+    from: usize,
+    seen: &mut [bool],
+) -> Vec<usize> {
     let mut pixels = vec![from];
     seen[from] = true;
     let mut next = 0;
     while next < pixels.len() {
-        for q in picture.neighbours(pixels[next]) {
+        for q in picture.neighbours(pixels[next], neighbours) {
             if picture.greys[q] >= level && !seen[q] {
                 seen[q] = true;
                 pixels.push(q);
@@ -113,8 +119,9 @@ fn component(picture: &Picture, level: u8, pixels: Vec<usize>) -> Component {
 }
 
 impl Levels {
-    pub fn of(picture: &Picture) -> Levels {
+    pub fn of(picture: &Picture, neighbours: u32) -> Levels {
         let mut levels = Levels {
+            neighbours,
             components: Vec::new(),
             holding: vec![Vec::new(); picture.pixels()],
             least: picture.least(),
@@ -135,7 +142,7 @@ impl Levels {
         let mut seen = vec![false; picture.pixels()];
         for p in 0..picture.pixels() {
             if picture.greys[p] >= level && !seen[p] {
-                let pixels = flood_fill(picture, level, p, &mut seen);
+                let pixels = flood_fill(picture, self.neighbours, level, p, &mut seen);
                 for q in &pixels {
                     self.holding[*q].push(self.components.len());
                 }
@@ -222,8 +229,8 @@ pub fn largest_falls(pictures: &[Vec<u8>]) -> (Vec<u8>, Vec<u16>) {
 
 /// Is `new` a leveling of the picture: for neighbours p, q, if new p exceeds new q, then old p is
 /// at least new p and new q at least old q.
-pub fn is_leveling(picture: &Picture, new: &[u8]) -> bool {
+pub fn is_leveling(picture: &Picture, neighbours: u32, new: &[u8]) -> bool {
     let old = &picture.greys;
     let fits = |p: usize, q: usize| new[p] <= new[q] || (old[p] >= new[p] && new[q] >= old[q]);
-    (0..picture.pixels()).all(|p| picture.neighbours(p).into_iter().all(|q| fits(p, q)))
+    (0..picture.pixels()).all(|p| picture.neighbours(p, neighbours).all(|q| fits(p, q)))
 }

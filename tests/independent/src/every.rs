@@ -1,6 +1,7 @@
-// Every picture of a few small shapes with a few greys, by every attribute.
+// Every picture of a few small shapes with a few greys, by every attribute and neighbourhood.
 
 use crate::calls::{check_build, check_map, check_open, ByDefinition, Call};
+use crate::causes::NEIGHBOURHOODS;
 use crate::definition::{Levels, Picture};
 use crate::random::Random;
 use crate::report::Report;
@@ -33,8 +34,8 @@ fn picture((width, height, greys): (usize, usize, usize), number: usize) -> Pict
     }
 }
 
-fn check(report: &mut Report, random: &mut Random, picture: &Picture) {
-    let levels = Levels::of(picture);
+fn check(report: &mut Report, random: &mut Random, picture: &Picture, neighbours: u32) {
+    let levels = Levels::of(picture, neighbours);
     let truth = ByDefinition {
         picture,
         levels: &levels,
@@ -43,11 +44,11 @@ fn check(report: &mut Report, random: &mut Random, picture: &Picture) {
     for attribute in 1..=3 {
         let steps: Vec<u32> = (1..=most as u32).filter(|_| random.chance(2, 3)).collect();
         let single = random.between(1, most) as u32;
-        let call = Call::good(picture, attribute, vec![single]);
+        let call = Call::good(picture, attribute, neighbours, vec![single]);
         check_build(report, random, &call, &truth);
         check_open(report, random, &call, &truth);
         if !steps.is_empty() {
-            let call = Call::good(picture, attribute, steps);
+            let call = Call::good(picture, attribute, neighbours, steps);
             check_map(report, random, &call, &truth);
         }
     }
@@ -58,7 +59,10 @@ pub fn run(report: &mut Report, seed: u64) {
     for shape in SHAPES {
         let total = shape.2.pow((shape.0 * shape.1) as u32);
         for number in 0..total {
-            check(report, &mut random, &picture(shape, number));
+            let picture = picture(shape, number);
+            for neighbours in NEIGHBOURHOODS {
+                check(report, &mut random, &picture, neighbours);
+            }
         }
     }
 }

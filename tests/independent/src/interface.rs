@@ -18,6 +18,7 @@ extern "C" {
         width: u32,
         height: u32,
         attribute: u32,
+        neighbours: u32,
         workspace: *mut u32,
         workspace_len: usize,
     ) -> u64;
@@ -27,6 +28,7 @@ extern "C" {
         width: u32,
         height: u32,
         attribute: u32,
+        neighbours: u32,
         threshold: u32,
         workspace: *mut u32,
         workspace_len: usize,
@@ -39,6 +41,7 @@ extern "C" {
         width: u32,
         height: u32,
         attribute: u32,
+        neighbours: u32,
         steps: *const u32,
         steps_len: usize,
         workspace: *mut u32,
@@ -50,12 +53,13 @@ extern "C" {
     ) -> u64;
 }
 
-/// Width, height and attribute as a call names them.
+/// Width, height, attribute and number of neighbours as a call names them.
 #[derive(Clone, Copy, Debug)]
 pub struct Frame {
     pub width: u32,
     pub height: u32,
     pub attribute: u32,
+    pub neighbours: u32,
 }
 
 pub fn read_pgm(file: &[u8], head: &mut [u32]) -> u64 {
@@ -85,6 +89,7 @@ pub fn build(picture: &[u8], frame: Frame, workspace: &mut [u32]) -> u64 {
             frame.width,
             frame.height,
             frame.attribute,
+            frame.neighbours,
             workspace.as_mut_ptr(),
             workspace.len(),
         )
@@ -105,6 +110,7 @@ pub fn open(
             frame.width,
             frame.height,
             frame.attribute,
+            frame.neighbours,
             threshold,
             workspace.as_mut_ptr(),
             workspace.len(),
@@ -129,6 +135,7 @@ pub fn map(
             frame.width,
             frame.height,
             frame.attribute,
+            frame.neighbours,
             steps.as_ptr(),
             steps.len(),
             workspace.as_mut_ptr(),

@@ -1,13 +1,14 @@
 // A few large pictures, at the bounds of the sides and of n, against the fast implementation.
 
 use crate::calls::{check_build, check_map, check_open, Call};
+use crate::causes::NEIGHBOURHOODS;
 use crate::definition::Picture;
 use crate::fast::Forest;
 use crate::pictures::KINDS;
 use crate::random::Random;
 use crate::report::Report;
 
-const SIZES: [(&str, usize, usize); 12] = [
+const SIZES: [(&str, usize, usize); 14] = [
     ("floc", 1024, 1024),
     ("noise", 1024, 1024),
     ("ramp", 1024, 1024),
@@ -20,6 +21,8 @@ const SIZES: [(&str, usize, usize); 12] = [
     ("noise", 1, 4096),
     ("noise", 4096, 1),
     ("bridges", 1000, 1001),
+    ("diagonals", 1024, 1024),
+    ("row ends", 255, 4096),
 ];
 
 fn picture(random: &mut Random, kind: &str, width: usize, height: usize) -> Picture {
@@ -49,20 +52,26 @@ fn steps(random: &mut Random) -> Vec<u32> {
     steps
 }
 
+/// Each call under each neighbourhood, each time by another attribute.
+fn check(report: &mut Report, random: &mut Random, picture: &Picture, case: usize) {
+    for (turn, neighbours) in NEIGHBOURHOODS.into_iter().enumerate() {
+        let forest = Forest::of(picture, neighbours);
+        let call = |by: usize, steps: Vec<u32>| {
+            let attribute = 1 + (case + turn + by) as u32 % 3;
+            Call::good(picture, attribute, neighbours, steps)
+        };
+        check_build(report, random, &call(0, vec![1]), &forest);
+        let single = random.pick(&[2, 5, 12, 60, 900, 1024, 1_048_576, 1_048_577]);
+        check_open(report, random, &call(1, vec![single]), &forest);
+        let steps = steps(random);
+        check_map(report, random, &call(2, steps), &forest);
+    }
+}
+
 pub fn run(report: &mut Report, seed: u64) {
     for (case, (kind, width, height)) in SIZES.into_iter().enumerate() {
         let mut random = Random::for_case(seed, 5, case as u64);
         let picture = picture(&mut random, kind, width, height);
-        let forest = Forest::of(&picture);
-        for attribute in 1..=3 {
-            let call = Call::good(&picture, attribute, steps(&mut random));
-            check_build(report, &mut random, &call, &forest);
-            if attribute as usize == 1 + case % 3 {
-                check_map(report, &mut random, &call, &forest);
-            }
-            let single = random.pick(&[2, 5, 12, 60, 900, 1024, 1_048_576, 1_048_577]);
-            let call = Call::good(&picture, attribute, vec![single]);
-            check_open(report, &mut random, &call, &forest);
-        }
+        check(report, &mut random, &picture, case);
     }
 }

@@ -2,7 +2,7 @@
 // length, or of its bytes, would find it right.
 
 use crate::calls::{first_fault, shown, step_list, Call};
-use crate::causes::{refusal, Named};
+use crate::causes::{refusal, Named, NEIGHBOURHOODS, ORDER};
 use crate::damage;
 use crate::files::{damage_read, damage_write, good_file, good_writing, sets, Writing};
 use crate::interface;
@@ -124,11 +124,12 @@ type Check<const RUNS: usize> = fn(&mut Report, &mut Random, &Call, [usize; RUNS
 /// Runs too long in calls that are good otherwise, and in calls that other causes apply to.
 fn on_pictures<const RUNS: usize>(report: &mut Report, random: &mut Random, check: Check<RUNS>) {
     for surplus in choices() {
-        for (case, causes) in sets(&[1, 2, 3, 4, 5, 6]).into_iter().enumerate() {
+        for (case, causes) in sets(&ORDER).into_iter().enumerate() {
             let picture = pictures::small(random, case);
             let attribute = random.between(1, 3) as u32;
+            let neighbours = random.pick(&NEIGHBOURHOODS);
             let steps = step_list(random, &[1, 2, 3, 5, 8, 13, 40]);
-            let mut call = Call::good(&picture, attribute, steps);
+            let mut call = Call::good(&picture, attribute, neighbours, steps);
             for cause in causes {
                 damage::apply(random, &mut call, cause);
             }
@@ -218,9 +219,9 @@ pub fn run(report: &mut Report, seed: u64) {
     on_files(report, &mut random);
     on_long_comment(report, &mut random);
     on_buffers(report, &mut random);
-    report.check_all_met("long build", &[1, 2, 3, 5]);
-    report.check_all_met("long open", &[1, 2, 3, 4, 5, 6]);
-    report.check_all_met("long map", &[1, 2, 3, 4, 5, 6]);
+    report.check_all_met("long build", &[1, 2, 3, 17, 5]);
+    report.check_all_met("long open", &[1, 2, 3, 17, 4, 5, 6]);
+    report.check_all_met("long map", &[1, 2, 3, 17, 4, 5, 6]);
     report.check_all_met("long read", &[0, 8, 9, 10, 1, 11]);
     report.check_all_met("long write", &[0, 1, 2, 10, 12]);
 }

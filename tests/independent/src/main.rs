@@ -19,6 +19,7 @@ mod interface;
 mod large;
 mod lent;
 mod long;
+mod neighbours;
 mod pgm;
 mod pictures;
 mod program;
@@ -38,8 +39,9 @@ const FEWEST_CASES: usize = 1000;
 
 type Suite = fn(&mut Report, &Options);
 
-const SUITES: [(&str, Suite); 8] = [
+const SUITES: [(&str, Suite); 9] = [
     ("table", |r, o| table::run(r, o.seed)),
+    ("neighbours", |r, o| neighbours::run(r, o.seed)),
     ("every", |r, o| every::run(r, o.seed)),
     ("calls", |r, o| calls::run(r, o.seed, o.cases)),
     ("chains", |r, o| chains::run(r, o.seed, o.cases / 4)),

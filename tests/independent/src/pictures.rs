@@ -5,7 +5,7 @@ use crate::random::Random;
 
 type Maker = fn(&mut Random, usize, usize) -> Vec<u8>;
 
-pub const KINDS: [(&str, Maker); 14] = [
+pub const KINDS: [(&str, Maker); 17] = [
     ("few greys", few_greys),
     ("noise", noise),
     ("floc", floc),
@@ -20,6 +20,9 @@ pub const KINDS: [(&str, Maker); 14] = [
     ("bridges", bridges),
     ("two ends", two_ends),
     ("about 64", about_64),
+    ("diagonals", diagonals),
+    ("corners", corners),
+    ("row ends", row_ends),
 ];
 
 fn by_place(width: usize, height: usize, mut grey: impl FnMut(usize, usize) -> u8) -> Vec<u8> {
@@ -222,6 +225,55 @@ fn two_ends(random: &mut Random, width: usize, height: usize) -> Vec<u8> {
 fn about_64(random: &mut Random, width: usize, height: usize) -> Vec<u8> {
     let palette = [0, 1, 62, 63, 64, 65, 127, 128, 191, 192, 193, 255];
     by_place(width, height, |_, _| random.pick(&palette))
+}
+
+/// Broken lines one pixel wide, rising or falling, on a dark ground.
+fn diagonals(random: &mut Random, width: usize, height: usize) -> Vec<u8> {
+    let apart = random.between(2, 6);
+    let rising = random.chance(1, 2);
+    let palette = [random.between(41, 255) as u8, random.between(41, 255) as u8];
+    let dark = random.below(40) as u8;
+    by_place(width, height, |row, column| {
+        let along = if rising { column } else { width - 1 - column };
+        let line = (row + along) % apart == 0;
+        if line && random.chance(7, 8) {
+            random.pick(&palette)
+        } else {
+            dark
+        }
+    })
+}
+
+/// Squares of a few greys that touch at their corners alone.
+fn corners(random: &mut Random, width: usize, height: usize) -> Vec<u8> {
+    let square = random.between(1, 3);
+    let palette = [random.byte(), random.byte(), random.byte()];
+    let dark = random.below(40) as u8;
+    let mut squares = Vec::new();
+    for _ in 0..(width / square + 1) * (height / square + 1) {
+        squares.push(random.pick(&palette));
+    }
+    by_place(width, height, |row, column| {
+        let (down, across) = (row / square, column / square);
+        if (down + across) % 2 == 0 {
+            squares[down * (width / square + 1) + across]
+        } else {
+            dark
+        }
+    })
+}
+
+/// Bright pixels in the first and the last column, which lie apart, however near their positions.
+fn row_ends(random: &mut Random, width: usize, height: usize) -> Vec<u8> {
+    let dark = random.below(40) as u8;
+    let palette = [dark, random.between(41, 255) as u8, random.byte()];
+    by_place(width, height, |_, column| {
+        if column == 0 || column + 1 == width {
+            random.pick(&palette)
+        } else {
+            dark
+        }
+    })
 }
 
 fn small_size(random: &mut Random) -> (usize, usize) {

@@ -114,12 +114,19 @@ const ODD_PICTURES: [&[u8]; 14] = [
     b"P5\n2049 1\n1\n",
 ];
 
-/// The scope's example.
-const EXAMPLE: (&[u8], &[u8], &str) = (
-    b"P5\n3 1\n255\n\x0a\x28\x0a",
-    b"attribute\tarea\nstep\t1\nstep\t2\n",
-    "row\tcol\tgrey\tresidue\tindex\n0\t0\t10\t0\t0\n0\t1\t40\t30\t2\n0\t2\t10\t0\t0\n",
-);
+/// The scope's example, and its two-row case, in which the corners would count with 8 neighbours.
+const EXAMPLES: [(&[u8], &[u8], &str); 2] = [
+    (
+        b"P5\n3 1\n255\n\x0a\x28\x0a",
+        b"attribute\tarea\nstep\t1\nstep\t2\n",
+        "row\tcol\tgrey\tresidue\tindex\n0\t0\t10\t0\t0\n0\t1\t40\t30\t2\n0\t2\t10\t0\t0\n",
+    ),
+    (
+        b"P5\n2 2\n255\n\x09\x00\x00\x09",
+        b"attribute\tarea\nstep\t2\n",
+        "row\tcol\tgrey\tresidue\tindex\n0\t0\t9\t9\t1\n0\t1\t0\t0\t0\n1\t0\t0\t0\t0\n1\t1\t9\t9\t1\n",
+    ),
+];
 
 /// Lists that are one step too long, or just not, some with a fault in their last line.
 fn long_steps(random: &mut Random) -> Vec<u8> {
@@ -265,14 +272,16 @@ impl Place {
         });
     }
 
-    /// The example, and each odd file beside a good one and beside a bad one.
+    /// The examples, and each odd file beside a good one and beside a bad one.
     fn systematic(&self, report: &mut Report) {
-        let (basin, steps, due) = EXAMPLE;
-        let same = steps::printed(Some(basin), Some(steps)) == due;
-        let fault = (!same).then(|| String::from("not as the scope prints it"));
-        report.check(fault, || String::from("definition here: the example"));
         let file = |bytes: &[u8]| Entry::File(bytes.to_vec());
-        self.check(report, &file(basin), &file(steps));
+        for (basin, steps, due) in EXAMPLES {
+            let same = steps::printed(Some(basin), Some(steps)) == due;
+            let fault = (!same).then(|| String::from("not as the scope has it"));
+            report.check(fault, || format!("definition here: {}", shown(basin)));
+            self.check(report, &file(basin), &file(steps));
+        }
+        let (basin, steps, _) = EXAMPLES[0];
         for odd in ODD_STEPS {
             self.check(report, &file(basin), &file(odd));
         }

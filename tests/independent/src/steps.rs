@@ -7,6 +7,9 @@ use crate::pgm;
 const MOST_BYTES: usize = 4096;
 const MOST_LISTED: usize = 2048;
 
+/// The program names no other number of neighbours.
+const NEIGHBOURS: u32 = 4;
+
 fn number(text: &[u8]) -> Option<u32> {
     let digits = text.len();
     let leading_zero = digits > 1 && text[0] == b'0';
@@ -74,7 +77,7 @@ fn answer(basin: Option<&[u8]>, steps: Option<&[u8]>) -> Result<String, u32> {
         return Err(14);
     }
     let (attribute, steps) = parse(steps)?;
-    let (residue, index) = Levels::of(&picture).maps(&picture, attribute, &steps);
+    let (residue, index) = Levels::of(&picture, NEIGHBOURS).maps(&picture, attribute, &steps);
     Ok(listing(&picture, &residue, &index))
 }
 

@@ -1,0 +1,250 @@
+// The neighbour rule by itself: in the definitions here, and in the library on two bright pixels,
+// any two of a picture. Then pictures worked out by hand that tell 8 neighbours from 4, and calls
+// that name neither.
+
+use crate::calls::{check_build, check_map, check_open, ByDefinition, Call, CHECKS};
+use crate::causes::{NEIGHBOURHOODS, ORDER};
+use crate::damage;
+use crate::definition::{Levels, Picture};
+use crate::random::Random;
+use crate::report::Report;
+use crate::table::{Table, AREA, HEIGHT, WIDTH};
+
+/// Width and height.
+const SHAPES: [(usize, usize); 18] = [
+    (1, 1),
+    (1, 2),
+    (2, 1),
+    (1, 3),
+    (3, 1),
+    (2, 2),
+    (1, 9),
+    (9, 1),
+    (2, 3),
+    (3, 2),
+    (2, 7),
+    (7, 2),
+    (3, 3),
+    (3, 4),
+    (4, 3),
+    (4, 4),
+    (3, 6),
+    (6, 3),
+];
+
+/// Two pixels: how far apart their rows are, and their columns.
+fn apart(width: usize, p: usize, q: usize) -> [usize; 2] {
+    let rows = (p / width).abs_diff(q / width);
+    let columns = (p % width).abs_diff(q % width);
+    [rows, columns]
+}
+
+/// Rows and columns differ by at most 1 each and not both by 0; with 4 just one of them differs.
+fn are_neighbours(width: usize, p: usize, q: usize, number: u32) -> bool {
+    let apart = apart(width, p, q);
+    let differing = apart.iter().filter(|by| **by > 0).count();
+    let most = if number == 4 { 1 } else { 2 };
+    apart.iter().all(|by| *by <= 1) && (1..=most).contains(&differing)
+}
+
+fn check_rule(report: &mut Report, (width, height): (usize, usize), number: u32) {
+    let picture = Picture {
+        width,
+        height,
+        greys: vec![0; width * height],
+    };
+    for p in 0..picture.pixels() {
+        let listed: Vec<usize> = picture.neighbours(p, number).collect();
+        let is_one = |q: &usize| are_neighbours(width, p, *q, number);
+        let due: Vec<usize> = (0..picture.pixels()).filter(is_one).collect();
+        let fault = (listed != due).then(|| format!("neighbours {listed:?}, should be {due:?}"));
+        report.check(fault, || {
+            format!("definition here: {width} by {height}, pixel {p}, {number} named")
+        });
+    }
+}
+
+/// Two pixels of these greys on a ground of 0.
+struct Pair {
+    picture: Picture,
+    at: [usize; 2],
+    greys: [u8; 2],
+}
+
+impl Pair {
+    fn new((width, height): (usize, usize), at: [usize; 2], greys: [u8; 2]) -> Pair {
+        let mut picture = Picture {
+            width,
+            height,
+            greys: vec![0; width * height],
+        };
+        for (p, grey) in at.into_iter().zip(greys) {
+            picture.greys[p] = grey;
+        }
+        Pair { picture, at, greys }
+    }
+
+    /// The opening at 2: of two neighbours that attain it together the darker grey is left, of
+    /// other pixels nothing.
+    fn opened_at_2(&self, attribute: u32, number: u32) -> Vec<u8> {
+        let (width, [p, q]) = (self.picture.width, self.at);
+        let [rows, columns] = apart(width, p, q);
+        let enough = match attribute {
+            AREA => true,
+            HEIGHT => rows == 1,
+            _ => columns == 1,
+        };
+        let mut opened = vec![self.picture.least(); self.picture.pixels()];
+        if are_neighbours(width, p, q, number) && enough {
+            let left = self.greys[0].min(self.greys[1]);
+            (opened[p], opened[q]) = (left, left);
+        }
+        opened
+    }
+
+    fn check(&self, report: &mut Report, random: &mut Random, number: u32) {
+        let picture = &self.picture;
+        let levels = Levels::of(picture, number);
+        let truth = ByDefinition {
+            picture,
+            levels: &levels,
+        };
+        for attribute in 1..=3 {
+            let same = levels.opening(attribute, 2) == self.opened_at_2(attribute, number);
+            let fault = (!same).then(|| String::from("not opened as two pixels are"));
+            report.check(fault, || {
+                format!("definition here: {picture:?} attribute {attribute}, {number} neighbours")
+            });
+            let call = Call::good(picture, attribute, number, vec![2]);
+            check_build(report, random, &call, &truth);
+            check_open(report, random, &call, &truth);
+            check_map(report, random, &call, &truth);
+        }
+    }
+}
+
+fn check_pairs(report: &mut Report, random: &mut Random, shape: (usize, usize), number: u32) {
+    for q in 0..shape.0 * shape.1 {
+        for p in 0..q {
+            for greys in [[9, 9], [9, 5], [5, 9]] {
+                Pair::new(shape, [p, q], greys).check(report, random, number);
+            }
+        }
+    }
+}
+
+fn rows<const COLUMNS: usize>(rows: &[[u8; COLUMNS]]) -> Picture {
+    Picture {
+        width: COLUMNS,
+        height: rows.len(),
+        greys: rows.concat(),
+    }
+}
+
+/// Three pixels along each of the two diagonals, joined with 8, each by itself with 4.
+fn diagonals(table: &mut Table) {
+    let falling = rows(&[[5, 0, 0], [0, 7, 0], [0, 0, 6]]);
+    let rising = rows(&[[0, 0, 5], [0, 7, 0], [6, 0, 0]]);
+    let (falls, place) = if table.neighbours == 4 {
+        table.tree(&falling, &[1; 9], &[1, 9, 0, 0, 1, 0, 0, 0, 1], 4);
+        table.tree(&rising, &[0; 9], &[9, 0, 1, 0, 1, 0, 1, 0, 0], 4);
+        ([5, 7, 6], 1)
+    } else {
+        let parents = [1, 1, 1, 1, 8, 1, 1, 1, 0];
+        table.tree(&falling, &parents, &[3, 9, 0, 0, 1, 0, 0, 0, 2], 4);
+        let parents = [0, 0, 0, 0, 6, 0, 2, 0, 0];
+        table.tree(&rising, &parents, &[9, 0, 3, 0, 1, 0, 2, 0, 0], 4);
+        ([5, 5, 5], 3)
+    };
+    for (picture, at) in [(falling, [0, 4, 8]), (rising, [2, 4, 6])] {
+        let (mut residue, mut index) = ([0; 9], [0; 9]);
+        for (p, fall) in at.into_iter().zip(falls) {
+            (residue[p], index[p]) = (fall, place);
+        }
+        for attribute in [AREA, HEIGHT, WIDTH] {
+            table.maps(&picture, (attribute, &[2, 3, 4]), &residue, &index);
+        }
+    }
+}
+
+/// Chess patterns and a zigzag two columns wide. The bright pixels share only corners: with 8 they
+/// are one component, of the area, height and width given, with 4 each is one by itself.
+fn corners(table: &mut Table) {
+    let pictures = [
+        (rows(&[[9, 0, 9, 0], [0, 9, 0, 9], [9, 0, 9, 0]]), [6, 3, 4]),
+        (rows(&[[0, 9, 0, 9], [9, 0, 9, 0]]), [4, 2, 4]),
+        (rows(&[[9, 0], [0, 9], [9, 0], [0, 9], [9, 0]]), [5, 5, 2]),
+    ];
+    for (picture, whole) in pictures {
+        for (attribute, whole) in [AREA, HEIGHT, WIDTH].into_iter().zip(whole) {
+            let size = if table.neighbours == 4 { 1 } else { whole };
+            for last in [size, size + 1, whole + 2] {
+                let steps: Vec<u32> = (1..=last).collect();
+                let mut residue = picture.greys.clone();
+                if last == size {
+                    residue.fill(0);
+                }
+                let place = |fall: &u8| if *fall > 0 { size as u16 + 1 } else { 0 };
+                let index: Vec<u16> = residue.iter().map(place).collect();
+                table.maps(&picture, (attribute, &steps), &residue, &index);
+            }
+        }
+    }
+}
+
+/// The end of a row and the start of another lie apart, and one row or column has no corners.
+fn same_with_both(table: &mut Table) {
+    let columns = rows(&[[9, 0, 8], [9, 0, 8], [9, 0, 8]]);
+    let parents = [1, 1, 1, 0, 1, 2, 0, 1, 2];
+    table.tree(&columns, &parents, &[3, 9, 3, 0, 0, 0, 0, 0, 0], 3);
+    let ends = rows(&[[0, 0, 9], [9, 0, 0], [9, 0, 0]]);
+    let parents = [0, 0, 0, 0, 0, 0, 3, 0, 0];
+    table.tree(&ends, &parents, &[9, 0, 1, 2, 0, 0, 0, 0, 0], 3);
+    let hook = rows(&[[9, 9, 9], [0, 0, 9], [9, 0, 9]]);
+    let parents = [3, 0, 0, 3, 3, 0, 3, 3, 0];
+    table.tree(&hook, &parents, &[5, 0, 0, 9, 0, 0, 1, 0, 0], 3);
+    let column = rows(&[[9], [0], [9], [0], [7]]);
+    table.tree(&column, &[1, 1, 1, 1, 1], &[1, 5, 1, 0, 1], 4);
+    let row = rows(&[[9, 0, 9, 0, 7]]);
+    table.tree(&row, &[1, 1, 1, 1, 1], &[1, 5, 1, 0, 1], 4);
+}
+
+/// Numbers that are neither 4 nor 8, each alone, which is beside 17, and beside each other cause.
+fn check_wrong(report: &mut Report, random: &mut Random) {
+    let picture = rows(&[[9, 0, 3], [0, 9, 9]]);
+    let levels = Levels::of(&picture, NEIGHBOURHOODS[0]);
+    let truth = ByDefinition {
+        picture: &picture,
+        levels: &levels,
+    };
+    let small = (0..=300).filter(|number| !NEIGHBOURHOODS.contains(number));
+    for number in small.chain(damage::all_wrong_neighbours()) {
+        for beside in ORDER {
+            for check in CHECKS {
+                let mut call = Call::good(&picture, AREA, number, vec![2, 3]);
+                damage::apply(random, &mut call, beside);
+                call.frame.neighbours = number;
+                check(report, random, &call, &truth);
+            }
+        }
+    }
+}
+
+pub fn run(report: &mut Report, seed: u64) {
+    let mut random = Random::for_case(seed, 9, 0);
+    for neighbours in NEIGHBOURHOODS {
+        for shape in SHAPES {
+            check_rule(report, shape, neighbours);
+            check_pairs(report, &mut random, shape, neighbours);
+        }
+        let mut table = Table {
+            report,
+            random: Random::for_case(seed, 9, u64::from(neighbours)),
+            neighbours,
+        };
+        diagonals(&mut table);
+        corners(&mut table);
+        same_with_both(&mut table);
+    }
+    check_wrong(report, &mut random);
+}
