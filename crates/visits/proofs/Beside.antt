@@ -60,8 +60,14 @@ met-but-right {grid = grid} {p = p} U here x hx e =
     by-cases (all-around grid p x e) (λ right. inl right) (λ other. inr (U .met here x hx other))
 
 module _ (grid : Grid) (p : ℕ) where
+  pub one-above : grid .width ≤ p → above grid p (p - grid .width) ≡ true
+  one-above later = is-next-in-column (grid .width) (p - grid .width) p (omega arith)
+
   pub is-above : (q : ℕ) → above grid p q ≡ true → q ≡ p - grid .width
   is-above q e = omega (arith, below-is (grid .width) q p e)
+
+  pub one-below : below grid p (p + grid .width) ≡ true
+  one-below = is-next-in-column (grid .width) p (p + grid .width) refl
 
   pub is-below : (q : ℕ) → below grid p q ≡ true → q ≡ p + grid .width
   is-below = below-is (grid .width) p
@@ -87,7 +93,7 @@ module _ {grid : Grid} {picture : List ℕ} {s : Lists} {l p : ℕ} (S : Standin
   pub visit-above : w ≤ p → Visiting grid picture s l p (p - w)
   visit-above later =
       visiting S (p - w) (omega (arith, standing-in S))
-      (comes grid p (p - w) (inr (inl (inr (is-next-in-column w (p - w) p (omega arith))))))
+      (comes grid p (p - w) (inr (inl (inr (one-above grid p later)))))
 
   -- below: none in the last row
   pub none-below : length picture - p ≤ w → Visited grid picture s s p p (below grid p)
@@ -95,7 +101,7 @@ module _ {grid : Grid} {picture : List ℕ} {s : Lists} {l p : ℕ} (S : Standin
 
   pub visit-below : w < length picture - p → Visiting grid picture s l p (p + w)
   visit-below earlier =
-      visiting S (p + w) (omega arith) (comes grid p (p + w) (inl (inl (inr (is-next-in-column w p (p + w) refl)))))
+      visiting S (p + w) (omega arith) (comes grid p (p + w) (inl (inl (inr (one-below grid p)))))
 
   -- beside a base: none on the left in the first column, none on the right in the last
   module _ {b column : ℕ} (B : Based grid picture p b column) where
@@ -105,11 +111,12 @@ module _ {grid : Grid} {picture : List ℕ} {s : Lists} {l p : ℕ} (S : Standin
     pub left-fits : (column ≡ 0 → ⊥) → 1 ≤ b
     left-fits later = omega (arith, mod-le b w, B .column-is)
 
+    pub one-left : (column ≡ 0 → ⊥) → left-of grid b (b - 1) ≡ true
+    one-left later = is-next-in-row w (b - 1) b (omega (arith, left-fits later)) (λ e. later (B .column-is ∙ e))
+
     pub visit-left : (column ≡ 0 → ⊥) → Visiting grid picture s l p (b - 1)
     visit-left later =
-        let left : left-of grid b (b - 1) ≡ true =
-        is-next-in-row w (b - 1) b (omega (arith, left-fits later)) (λ e. later (B .column-is ∙ e)) in
-        visiting S (b - 1) (omega (arith, B .within)) (B .near (b - 1) (or-left _ _ left))
+        visiting S (b - 1) (omega (arith, B .within)) (B .near (b - 1) (or-left _ _ (one-left later)))
 
     pub column-in : column < w
     column-in = omega (arith, mod-lt b (S .ready .wide), B .column-is)
@@ -119,12 +126,17 @@ module _ {grid : Grid} {picture : List ℕ} {s : Lists} {l p : ℕ} (S : Standin
         let ends : b % w + 1 ≡ w = omega (arith, eqb-true (column + 1) w last, B .column-is) in
         stays S (λ q h e. absurd (right-inside w b q e (ap (λ (x : ℕ). x % w) (right-is w b q e) ∙ row-ends w b ends)))
 
+    goes-on : eqb (column + 1) w ≡ false → (b + 1) % w ≡ 0 → ⊥
+    goes-on earlier =
+        row-goes-on w b (S .ready .wide) (λ e. eqb-false (column + 1) w earlier (omega (arith, B .column-is)))
+
+    pub one-right : eqb (column + 1) w ≡ false → right-of grid b (b + 1) ≡ true
+    one-right earlier = is-next-in-row w b (b + 1) refl (goes-on earlier)
+
     pub visit-right : eqb (column + 1) w ≡ false → Visiting grid picture s l p (b + 1)
     visit-right earlier =
-        let on : (b + 1) % w ≡ 0 → ⊥ =
-        row-goes-on w b (S .ready .wide) (λ e. eqb-false (column + 1) w earlier (omega (arith, B .column-is))) in
-        let right : right-of grid b (b + 1) ≡ true = is-next-in-row w b (b + 1) refl on in
-        visiting S (b + 1) (row-in w b _ (B .within) rows-whole on) (B .near (b + 1) (or-right (left-of grid b (b + 1)) _ right))
+        visiting S (b + 1) (row-in w b _ (B .within) rows-whole (goes-on earlier))
+        (B .near (b + 1) (or-right (left-of grid b (b + 1)) _ (one-right earlier)))
 
   -- p is a base
   pub based-here : {column : ℕ} → column ≡ p % w → Based grid picture p p column

@@ -24,7 +24,7 @@ use Rattle.flooding.proofs.Following.{followed-sound, followed-at}
 use Rattle.flooding.proofs.Named.{turned-back, count-stored}
 use Rattle.flooding.proofs.Numbers.{taken-fits, pushed-number-fits, open-number, open-root, Renamed, named-pushed}
 use Rattle.queues.specs.Queues.{Lists, lists, numbers-of, state-of, Nameable, Fitting, Placing, Replaceable, Replacing}
-use Rattle.visits.specs.Visits.{head-pixel, Ready, Standing, StandsAt, Visiting, Visited, met-count, unmet-at, Met-but, VisitedAround}
+use Rattle.visits.specs.Visits.{head-pixel, Ready, Standing, StandsAt, Visiting, Visited, VisitedTo, met-count, unmet-at, Met-but, VisitedAround}
 
 -- a pixel in its queue, and the parents and roots that the numbers stand for then, are a step of the flood
 pub pushes :
@@ -117,6 +117,9 @@ module _ {grid : Grid} {picture : List ℕ} {s : Lists} where
         let T : Standing grid picture s' (grey picture p) p = rw e at (U .stands) in
         rw (standing-grey S) at T
 
+    pub settled : r ≡ p → Visited grid picture s s' p p side
+    settled e = rw e at U
+
     -- no word is added
     pub same-words : {l : ℕ} → Standing grid picture s l p → length (s' .words) ≡ length (s .words)
     same-words S = U .stands .ready .sized .words ∙ sym (S .ready .sized .words)
@@ -168,6 +171,26 @@ module _ {grid : Grid} {picture : List ℕ} {s : Lists} where
             by-cases (or-cases (side₁ x) (side₂ x) h) (λ a. B .kept x hx (A .met here x hx a)) (λ b. B .met e x hx b);
       }
 
+  -- by the level that is answered
+  pub no-visit : {l p : ℕ} {side : Positions} → Visited grid picture s s p p side → VisitedTo grid picture s s l l p side
+  no-visit none = record { stayed = λ e. none; there = λ ne. absurd (ne refl); went = λ ne. absurd (ne refl) }
+
+  pub on-side-to :
+      {s' : Lists} {l p q r : ℕ} {side : Positions} → VisitedTo grid picture s s' l r p (eqb q) → ((x : ℕ) → side x ≡ true → x ≡ q)
+      → side q ≡ true → VisitedTo grid picture s s' l r p side
+  on-side-to {q = q} U only one =
+      record {
+        stayed = λ e. on-side (U .stayed e) only;
+        there = λ ne. rw (← eqb-true q _ (U .there ne)) one;
+        went = U .went;
+      }
+
+  -- the flood moves up to the pixel on a side
+  pub climbs :
+      {s' : Lists} {l p q r : ℕ} {side any : Positions} → VisitedTo grid picture s s' l r p side → (r ≡ l → ⊥)
+      → ((x : ℕ) → side x ≡ true → x ≡ q) → Visited grid picture s s' p q any
+  climbs {any = any} U ne only = rw (only _ (U .there ne)) at (U .went ne any)
+
   -- the last visit, of all neighbours that were not met, after others that stay
   pub then-last :
       {s₁ s₂ : Lists} {p q r : ℕ} {side : Positions} → Visited grid picture s s₁ p q side → q ≡ p
@@ -197,9 +220,9 @@ module _ {grid : Grid} {picture : List ℕ} {s : Lists} where
     abbrev R : Ready grid picture s l
     R = U .standing .ready
 
-    pub already : (number-at (s .words) q ≡ length picture → ⊥) → Visited grid picture s s p p (eqb q)
+    pub already : (number-at (s .words) q ≡ length picture → ⊥) → VisitedTo grid picture s s l l p (eqb q)
     already ne =
-        stays (U .standing) (λ x hx h. let e = eqb-true q x h in rw (sym e) (omega (arith, R .named .range q (U .within))))
+        no-visit (stays (U .standing) (λ x hx h. let e = eqb-true q x h in rw (sym e) (omega (arith, R .named .range q (U .within)))))
 
     -- no node is open at a brighter level
     no-root : l < grey picture q → length picture ≤ R .root (grey picture q)
@@ -219,6 +242,10 @@ module _ {grid : Grid} {picture : List ℕ} {s : Lists} where
     module _ (new : number-at (s .words) q ≡ length picture) where
       unmet : R .par q ≡ length picture
       unmet = R .named .unmet q (U .within) new
+
+      -- p is met, and q was not
+      other : q ≡ p → ⊥
+      other e = let met : R .par p < length picture = standing-met (U .standing) in omega (arith, ap (R .par) e, unmet)
 
       pub fits : Fitting (length picture) q (grey picture q) (s .words) (s .tails) (s .opened)
       fits =
@@ -289,7 +316,7 @@ module _ {grid : Grid} {picture : List ℕ} {s : Lists} where
               (stay .1)
               (stands-at (record { ready = queued-ready (inr (stay .0, refl)); here = same-head ∙ U .standing .here }))
 
-          pub queued :
+          queued :
               {r : ℕ} → ((l < grey picture q) × (r ≡ q)) ⊎ ((grey picture q ≤ l) × (r ≡ p))
               → Visited grid picture s after p r (eqb q)
           queued which =
@@ -302,6 +329,29 @@ module _ {grid : Grid} {picture : List ℕ} {s : Lists} where
                 raised = λ ne. omega arith;
                 met = λ same x hx h. let e = eqb-true q x h in rw (sym e) named-fits;
               }
+
+          pub queued-to :
+              {r : ℕ} → ((l < grey picture q) × (r ≡ grey picture q)) ⊎ ((grey picture q ≤ l) × (r ≡ l))
+              → VisitedTo grid picture s after l r p (eqb q)
+          queued-to {r} (inl up) =
+              let here : head-pixel (length picture) after r ≡ q = rw (up .1) (first-here (up .0)) in
+              record {
+                stayed = λ e. absurd (omega (arith, up .0, up .1));
+                there = λ ne. eq-eqb q _ (sym here);
+                went = λ ne any. rw here (moved (queued (inl (up .0, refl))) other);
+              }
+          queued-to (inr stay) =
+              record {
+                stayed = λ e. queued (inr (stay .0, refl));
+                there = λ ne. absurd (ne (stay .1));
+                went = λ ne. absurd (ne (stay .1));
+              }
+
+-- the flood moves up after visits that stay
+pub then-climbs :
+    {grid : Grid} {picture : List ℕ} {s s₁ s₂ : Lists} {l p q r : ℕ} {side₁ side₂ any : Positions} → Visited grid picture s s₁ p p side₁
+    → VisitedTo grid picture s₁ s₂ l r p side₂ → (r ≡ l → ⊥) → ((x : ℕ) → side₂ x ≡ true → x ≡ q) → Visited grid picture s s₂ p q any
+then-climbs {side₁ = side₁} A B ne only = covers (visits A refl (climbs B ne only)) (λ x hx h. inl (or-right (side₁ x) _ h))
 
 -- q, the neighbour of p on a side that has no other pixel, is not met and of p's level: it takes p's place at the head
 module _ {grid : Grid} {picture : List ℕ} {s : Lists} {l p q : ℕ} {side : Positions} (U : Visiting grid picture s l p q)
@@ -354,10 +404,6 @@ module _ {grid : Grid} {picture : List ℕ} {s : Lists} {l p q : ℕ} {side : Po
         unmet-parent : ready .par q ≡ length picture
         unmet-parent = ready .named .unmet q in-q new
 
-        -- p is met, and q was not
-        other : q ≡ p → ⊥
-        other e = let met : ready .par p < length picture = standing-met S in omega (arith, ap (ready .par) e, unmet-parent)
-
         bytes : (x : ℕ) → x < length picture → grey picture x < 256
         bytes x h = ready .bytes x
 
@@ -397,5 +443,5 @@ module _ {grid : Grid} {picture : List ℕ} {s : Lists} {l p q : ℕ} {side : Po
               kept = still-met (s .words) ws' (P .numbering .num) fits;
               more = omega arith;
               raised = λ ne. omega arith;
-              met = λ e. absurd (other e);
+              met = λ e. absurd (other U new e);
             }

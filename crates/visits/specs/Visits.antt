@@ -124,6 +124,13 @@ pub record Visited (grid : Grid) (picture : List ℕ) (s s' : Lists) (p q : ℕ)
   pub raised : (q ≡ p → ⊥) → met-count (length picture) (s .words) < met-count (length picture) (s' .words)
   pub met : q ≡ p → (x : ℕ) → x < length picture → side x ≡ true → number-at (s' .words) x < length picture
 
+-- the same by the level r that is answered: where it is l, the flood stays at p; where it is not, it has moved to the pixel at the head of
+-- level r, which is on the side named, and no side is all met
+pub record VisitedTo (grid : Grid) (picture : List ℕ) (s s' : Lists) (l r p : ℕ) (side : Positions) : Type 0 where
+  pub stayed : r ≡ l → Visited grid picture s s' p p side
+  pub there : (r ≡ l → ⊥) → side (head-pixel (length picture) s' r) ≡ true
+  pub went : (r ≡ l → ⊥) → (any : Positions) → Visited grid picture s s' p (head-pixel (length picture) s' r) any
+
 -- every neighbour of p is met, but for the one on the side named
 abbrev pub Met-but : Grid → List ℕ → Lists → ℕ → Positions → Type 0
 Met-but grid picture s p side =

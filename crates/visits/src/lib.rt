@@ -1,15 +1,16 @@
 // The visits: each neighbour of the pixel at the head of the current level that is not met is put into its queue, or takes the place at the
-// head. Each visit answers the pixel at which the flood goes on: a brighter one that was not met, or the one that it stands at.
+// head. The flood moves on at once to a brighter one that was not met.
 ghost use mathlib.Core.Path.{_≡_};
 ghost use Prim.Native.Nat.{_+_, _%_, _<_};
 ghost use lib.Dec.{eqb};
 ghost use lib.ListN.{length};
 ghost use Rattle.levels.specs.Workspace.{Sized};
 ghost use Rattle.visits.specs.Visits.{held, at-entry, at-exit, Standing, Visiting, above, left-of, right-of, below};
-ghost use Rattle.visits.specs.Visits.{corners-above, corners-below, corners, Based, Visited, unmet-at, Met-but, VisitedAround};
+ghost use Rattle.visits.specs.Visits.{corners-above, corners-below, corners, Based, Visited, VisitedTo, unmet-at, Met-but, VisitedAround};
 use grid::Grid;
 
-// Visits q, a neighbour of p, the pixel at the head of the current level: it is put into its queue unless it is met.
+// Visits q, a neighbour of p, the pixel at the head of the current level: it is put into its queue unless it is met. The answer is the level
+// at which the flood goes on, the brighter of the two. (Of two pixels the compiler could not tell that they differ.)
 fn visit(
     picture: &[u8],
     grid: Grid,
@@ -22,19 +23,19 @@ fn visit(
     opened: &mut [usize; 262],
 ) -> usize
     requires { ⌜ Visiting grid (now picture) (held ws heads tails opened) level p q ⌝ }
-    ensures { λ r. ⌜ Visited grid (now (picture .entry)) (at-entry ws heads tails opened) (at-exit ws heads tails opened) p r (eqb q) ⌝ }
+    ensures { λ r. ⌜ VisitedTo grid (now (picture .entry)) (at-entry ws heads tails opened) (at-exit ws heads tails opened) level r p (eqb q) ⌝ }
 {
     let n = picture.len();
     if ws[q] as usize != n {
-        return p;
+        return level;
     }
     let l = picture[q] as usize;
     if l > level {
         queues::push_first(n, q, l, ws, tails, opened);
-        return q;
+        return l;
     }
     queues::push(n, q, l, ws, tails, opened);
-    p
+    level
 }
 
 // The neighbour above p.
@@ -49,11 +50,11 @@ fn visit_up(
     opened: &mut [usize; 262],
 ) -> usize
     requires { ⌜ Standing grid (now picture) (held ws heads tails opened) level p ⌝ }
-    ensures { λ r. ⌜ Visited grid (now (picture .entry)) (at-entry ws heads tails opened) (at-exit ws heads tails opened) p r (above grid p) ⌝ }
+    ensures { λ r. ⌜ VisitedTo grid (now (picture .entry)) (at-entry ws heads tails opened) (at-exit ws heads tails opened) level r p (above grid p) ⌝ }
 {
     let width = grid.width as usize;
     if p < width {
-        return p;
+        return level;
     }
     visit(picture, grid, p - width, p, level, ws, heads, tails, opened)
 }
@@ -70,11 +71,11 @@ fn visit_down(
     opened: &mut [usize; 262],
 ) -> usize
     requires { ⌜ Standing grid (now picture) (held ws heads tails opened) level p ⌝ }
-    ensures { λ r. ⌜ Visited grid (now (picture .entry)) (at-entry ws heads tails opened) (at-exit ws heads tails opened) p r (below grid p) ⌝ }
+    ensures { λ r. ⌜ VisitedTo grid (now (picture .entry)) (at-entry ws heads tails opened) (at-exit ws heads tails opened) level r p (below grid p) ⌝ }
 {
     let width = grid.width as usize;
     if picture.len() - p <= width {
-        return p;
+        return level;
     }
     visit(picture, grid, p + width, p, level, ws, heads, tails, opened)
 }
@@ -94,10 +95,10 @@ fn visit_left(
 ) -> usize
     requires { ⌜ Standing grid (now picture) (held ws heads tails opened) level p ⌝ }
     requires { ⌜ Based grid (now picture) p base column ⌝ }
-    ensures { λ r. ⌜ Visited grid (now (picture .entry)) (at-entry ws heads tails opened) (at-exit ws heads tails opened) p r (left-of grid base) ⌝ }
+    ensures { λ r. ⌜ VisitedTo grid (now (picture .entry)) (at-entry ws heads tails opened) (at-exit ws heads tails opened) level r p (left-of grid base) ⌝ }
 {
     if column == 0 {
-        return p;
+        return level;
     }
     visit(picture, grid, base - 1, p, level, ws, heads, tails, opened)
 }
@@ -125,15 +126,15 @@ fn visit_right(
 ) -> usize
     requires { ⌜ Standing grid (now picture) (held ws heads tails opened) level p ⌝ }
     requires { ⌜ Based grid (now picture) p base column ⌝ }
-    ensures { λ r. ⌜ Visited grid (now (picture .entry)) (at-entry ws heads tails opened) (at-exit ws heads tails opened) p r (right-of grid base) ⌝ }
+    ensures { λ r. ⌜ VisitedTo grid (now (picture .entry)) (at-entry ws heads tails opened) (at-exit ws heads tails opened) level r p (right-of grid base) ⌝ }
 {
     if last_column(grid, column) {
-        return p;
+        return level;
     }
     visit(picture, grid, base + 1, p, level, ws, heads, tails, opened)
 }
 
-// The corners of p in the row above.
+// The corners of p in the row above. The answer is the pixel at which the flood goes on, p where it stays.
 fn visit_corners_above(
     picture: &[u8],
     grid: Grid,
@@ -167,10 +168,10 @@ fn visit_corners_above(
         tails,
         opened,
     );
-    if left != p {
-        return left;
+    if left != level {
+        return base - 1;
     }
-    visit_right(
+    let right = visit_right(
         picture,
         grid,
         column,
@@ -181,10 +182,14 @@ fn visit_corners_above(
         heads,
         tails,
         opened,
-    )
+    );
+    if right != level {
+        return base + 1;
+    }
+    p
 }
 
-// The corners of p in the row below.
+// The corners of p in the row below, likewise.
 fn visit_corners_below(
     picture: &[u8],
     grid: Grid,
@@ -218,10 +223,10 @@ fn visit_corners_below(
         tails,
         opened,
     );
-    if left != p {
-        return left;
+    if left != level {
+        return base - 1;
     }
-    visit_right(
+    let right = visit_right(
         picture,
         grid,
         column,
@@ -232,7 +237,11 @@ fn visit_corners_below(
         heads,
         tails,
         opened,
-    )
+    );
+    if right != level {
+        return base + 1;
+    }
+    p
 }
 
 // The corners of p, which are neighbours where 8 are named.
@@ -300,7 +309,11 @@ fn visit_last(
         queues::replace(picture.len(), q, level, head, ws, opened);
         return q;
     }
-    visit(picture, grid, q, p, level, ws, heads, tails, opened)
+    let right = visit(picture, grid, q, p, level, ws, heads, tails, opened);
+    if right != level {
+        return q;
+    }
+    p
 }
 
 // The neighbours of p, the pixel at the head of the current level, until the flood moves: up to one that is brighter and was not met, or on to
@@ -318,18 +331,19 @@ pub fn visit_around(
     requires { ⌜ Standing grid (now picture) (held ws heads tails opened) level p ⌝ }
     ensures { λ r. ⌜ VisitedAround grid (now (picture .entry)) (at-entry ws heads tails opened) (at-exit ws heads tails opened) p r ⌝ }
 {
+    let width = grid.width as usize;
     let column = (p as u32 % grid.width) as usize;
     let up = visit_up(picture, grid, p, level, ws, heads, tails, opened);
-    if up != p {
-        return up;
+    if up != level {
+        return p - width;
     }
     let left = visit_left(picture, grid, column, p, p, level, ws, heads, tails, opened);
-    if left != p {
-        return left;
+    if left != level {
+        return p - 1;
     }
     let down = visit_down(picture, grid, p, level, ws, heads, tails, opened);
-    if down != p {
-        return down;
+    if down != level {
+        return p + width;
     }
     let corner = visit_corners(picture, grid, column, p, level, ws, heads, tails, opened);
     if corner != p {

@@ -2,7 +2,7 @@
 use mathlib.Core.Logic.{inl, inr}
 use mathlib.Core.Path.{refl}
 use native.Mathlib.Omega.{arith}
-use Rattle.visits.proofs.Visits.{already, not-open, fits, queued}
+use Rattle.visits.proofs.Visits.{already, not-open, fits, queued-to}
 use borrow.Author.Needs.{needs}
 use Rattle.visits.proofs.visit.Statement.{statement}
 use Rattle.visits.proofs.visit.Tie as tie
@@ -40,7 +40,7 @@ returns-2 c =
     let done = c .before .before in
     let which = done .before .before .before .before in
     let new = which .before .before in
-    queued
+    queued-to
     (new .before .before .before .before .pre)
     (new .if1 .left)
     (done .push-first .kept .1 .1 .1 .0)
@@ -60,7 +60,7 @@ returns-3 c =
     let done = c .before .before in
     let which = done .before .before .before .before in
     let new = which .before .before in
-    queued
+    queued-to
     (new .before .before .before .before .pre)
     (new .if1 .left)
     (done .push .kept .1 .1 .1 .0)

@@ -1,7 +1,7 @@
 -- `visit_down` meets its contract. A pixel of the last row has no neighbour below.
 use native.Mathlib.Omega.{arith}
-use Rattle.visits.proofs.Visits.{standing-in, on-side}
-use Rattle.visits.proofs.Beside.{none-below, visit-below, is-below}
+use Rattle.visits.proofs.Visits.{standing-in, no-visit, on-side-to}
+use Rattle.visits.proofs.Beside.{none-below, visit-below, one-below, is-below}
 use borrow.Author.Needs.{needs}
 use Rattle.visits.proofs.visit_down.Statement.{statement}
 use Rattle.visits.proofs.visit_down.Tie as tie
@@ -13,7 +13,7 @@ sub-if1 : tie.Need-sub-if1
 sub-if1 c = omega (arith, standing-in (c .before .before .before .pre))
 
 returns : tie.Need-returns
-returns c = none-below (c .before .before .before .before .pre) (c .if1 .taken)
+returns c = no-visit (none-below (c .before .before .before .before .pre) (c .if1 .taken))
 
 add-visit : tie.Need-add-visit
 add-visit c = search needs
@@ -25,7 +25,7 @@ same-length : tie.Need-same-length
 same-length c = search needs
 
 returns-2 : tie.Need-returns-2
-returns-2 c = on-side (c .before .before .visit .ensures) (is-below (c .before .before .before .before .before .before .before .before .before .before .args .grid) (c .before .before .before .before .before .before .before .before .before .before .args .p))
+returns-2 c = on-side-to (c .before .before .visit .ensures) (is-below (c .before .before .before .before .before .before .before .before .before .before .args .grid) (c .before .before .before .before .before .before .before .before .before .before .args .p)) (one-below (c .before .before .before .before .before .before .before .before .before .before .args .grid) (c .before .before .before .before .before .before .before .before .before .before .args .p))
 
 pub visit-down-spec : {M : Type 1} → statement M
 visit-down-spec =

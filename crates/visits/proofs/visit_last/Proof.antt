@@ -3,8 +3,10 @@
 use Prim.Native.Nat.{_+_}
 use mathlib.Core.Path.{sym, _∙_}
 use native.Mathlib.Omega.{arith}
+use borrow.Author.Tests.{eqb-true}
+use borrow.Author.Tests.{eqb-true}
 use Rattle.visits.specs.Visits.{held, Based, Visiting}
-use Rattle.visits.proofs.Visits.{standing-in, on-side, covers, replaceable, follows}
+use Rattle.visits.proofs.Visits.{standing-in, on-side, covers, climbs, replaceable, follows}
 use Rattle.visits.proofs.Beside.{based-here, column-in, none-right, visit-right, is-right}
 use borrow.Author.Needs.{needs}
 use Rattle.visits.proofs.visit_last.Statement.{statement}
@@ -62,7 +64,13 @@ same-length-2 : tie.Need-same-length-2
 same-length-2 c = search needs
 
 returns-3 : tie.Need-returns-3
-returns-3 c = covers (on-side (c .before .before .visit .ensures) (is-right (c .before .before .before .before .before .before .before .before .before .before .before .before .before .args .grid) (c .before .before .before .before .before .before .before .before .before .before .before .before .before .args .p))) (c .before .before .before .before .before .before .before .before .before .before .before .before .before .pre .1 .1)
+returns-3 c = climbs (c .before .before .before .visit .ensures) (c .if3 .taken) (λ x e. sym (eqb-true _ x e))
+
+same-length-3 : tie.Need-same-length-3
+same-length-3 c = search needs
+
+returns-4 : tie.Need-returns-4
+returns-4 c = covers (on-side (c .before .before .before .visit .ensures .stayed (c .if3 .left)) (is-right (c .before .before .before .before .before .before .before .before .before .before .before .before .before .before .args .grid) (c .before .before .before .before .before .before .before .before .before .before .before .before .before .before .args .p))) (c .before .before .before .before .before .before .before .before .before .before .before .before .before .before .pre .1 .1)
 
 pub visit-last-spec : {M : Type 1} → statement M
 visit-last-spec =
@@ -79,4 +87,6 @@ visit-last-spec =
     returns-2
     visit-requires
     same-length-2
-    returns-3)
+    returns-3
+    same-length-3
+    returns-4)
