@@ -4,7 +4,7 @@ use mathlib.Core.Bool.{true, not, _&&_, _||_}
 use mathlib.Core.Logic.{_⊎_, inl, inr, ⊎-elim, by-cases}
 use mathlib.Core.Path.{_≡_, sym, ap, _∙_}
 use native.Mathlib.Decide.{ℕ-discrete}
-use native.Mathlib.Nat.{mod-self, mod-eq-of-lt, mod-add-mod, mod-lt, add-mod-right}
+use native.Mathlib.Nat.{mod-eq-of-lt, add-mod-right}
 use native.Mathlib.Omega.{arith}
 use lib.Dec.{eqb}
 use borrow.Author.Tests.{eqb-true, eqb-false, eq-eqb, ne-eqb, not-true}
@@ -73,24 +73,6 @@ module _ (w p : ℕ) where
       (λ e. eq-eqb (q + w) (p + w + 1) (omega arith) ∙ sym (eq-eqb _ _ e))
       (λ ne. ne-eqb (q + w) (p + w + 1) (λ e. ne (omega arith)) ∙ sym (ne-eqb _ _ ne)) in
       rw (places, add-mod-right q w)
-
-  -- the last column, and the others
-  pub row-ends : p % w + 1 ≡ w → (p + 1) % w ≡ 0
-  row-ends e = sym (mod-add-mod p w 1) ∙ ap (λ (x : ℕ). x % w) e ∙ mod-self w
-
-  pub row-goes-on : 0 < w → (p % w + 1 ≡ w → ⊥) → (p + 1) % w ≡ 0 → ⊥
-  row-goes-on h ne e =
-      let lt : p % w + 1 < w = omega (arith, mod-lt p h) in
-      let z : p % w + 1 ≡ 0 = sym (mod-eq-of-lt lt) ∙ mod-add-mod p w 1 ∙ e in
-      omega arith
-
-  -- a row goes on within the picture
-  pub row-in : (n : ℕ) → p < n → n % w ≡ 0 → ((p + 1) % w ≡ 0 → ⊥) → p + 1 < n
-  row-in n h whole ne =
-      by-cases
-      (ℕ-discrete (p + 1) n)
-      (λ e. absurd (ne (ap (λ (x : ℕ). x % w) e ∙ whole)))
-      (λ far. omega arith)
 
 -- every pixel but the first has a neighbour before it, in its row or above
 neighbour-before : (c w : ℕ) → 0 < w → (q : ℕ) → 0 < q → (r : ℕ) × (r < q) × (neighbours c w r q ≡ true)

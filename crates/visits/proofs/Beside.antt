@@ -5,7 +5,7 @@ use mathlib.Core.Bool.{true, false, _||_}
 use mathlib.Core.List.{List}
 use mathlib.Core.Logic.{_⊎_, inl, inr}
 use mathlib.Core.Path.{_≡_, refl, sym, ap, _∙_}
-use native.Mathlib.Nat.{mod-le, mod-lt, mod-self, mul-mod-right, add-mod-right}
+use native.Mathlib.Nat.{mod-self, mul-mod-right}
 use native.Mathlib.Omega.{arith}
 use lib.Dec.{eqb}
 use lib.ListN.{length}
@@ -14,7 +14,7 @@ use Rattle.sets.specs.Sets.{Positions}
 use Rattle.sets.proofs.Tests.{and-left, and-right, and-both, or-cases, or-left, or-right}
 use Rattle.grid.specs.Neighbours.{adjacent}
 use Rattle.grid.specs.declared.Grid.{Grid}
-use Rattle.grid.proofs.Sides.{After, forth, back, side-of, below-is, right-is, right-inside, is-next-in-row, is-next-in-column, row-ends, row-goes-on, row-in, row-down}
+use Rattle.grid.proofs.Sides.{After, forth, back, side-of, below-is, right-is, right-inside, is-next-in-row, is-next-in-column, row-down}
 use Rattle.levels.proofs.Counts.{by-cases}
 use Rattle.queues.specs.Queues.{Lists}
 use Rattle.visits.specs.Visits.{Standing, Visiting, above, left-of, right-of, below, either-side, beside, corners-above, corners-below, corners, Based, Visited, Met-but}
@@ -82,10 +82,6 @@ module _ {grid : Grid} {picture : List ℕ} {s : Lists} {l p : ℕ} (S : Standin
   abbrev w : ℕ
   w = grid .width
 
-  -- the rows are whole
-  rows-whole : length picture % w ≡ 0
-  rows-whole = rw (S .ready .whole) (mul-mod-right w (grid .height))
-
   -- above: none in the first row
   pub none-above : p < w → Visited grid picture s s p p (above grid p)
   none-above first = stays S (λ q b e. absurd (omega (arith, below-is w q p e)))
@@ -103,53 +99,55 @@ module _ {grid : Grid} {picture : List ℕ} {s : Lists} {l p : ℕ} (S : Standin
   visit-below earlier =
       visiting S (p + w) (omega arith) (comes grid p (p + w) (inl (inl (inr (one-below grid p)))))
 
-  -- beside a base: none on the left in the first column, none on the right in the last
-  module _ {b column : ℕ} (B : Based grid picture p b column) where
-    pub none-left : column ≡ 0 → Visited grid picture s s p p (left-of grid b)
-    none-left first = stays S (λ q h e. absurd (right-inside w q b e (sym (B .column-is) ∙ first)))
+  -- beside a base: none on the left where a row starts there, none on the right where one starts after it
+  module _ {b : ℕ} (B : Based grid picture p b) where
+    pub none-left : b ≡ 0 → Visited grid picture s s p p (left-of grid b)
+    none-left first = stays S (λ q h e. absurd (omega (arith, right-is w q b e)))
 
-    pub left-fits : (column ≡ 0 → ⊥) → 1 ≤ b
-    left-fits later = omega (arith, mod-le b w, B .column-is)
+    pub row-starts : eqb (b % w) 0 ≡ true → Visited grid picture s s p p (left-of grid b)
+    row-starts start = stays S (λ q h e. absurd (right-inside w q b e (eqb-true (b % w) 0 start)))
 
-    pub one-left : (column ≡ 0 → ⊥) → left-of grid b (b - 1) ≡ true
-    one-left later = is-next-in-row w (b - 1) b (omega (arith, left-fits later)) (λ e. later (B .column-is ∙ e))
+    module _ (later : b ≡ 0 → ⊥) where
+      pub left-fits : 1 ≤ b
+      left-fits = omega (arith, later)
 
-    pub visit-left : (column ≡ 0 → ⊥) → Visiting grid picture s l p (b - 1)
-    visit-left later =
-        visiting S (b - 1) (omega (arith, B .within)) (B .near (b - 1) (or-left _ _ (one-left later)))
+      module _ (inside : eqb (b % w) 0 ≡ false) where
+        pub one-left : left-of grid b (b - 1) ≡ true
+        one-left = is-next-in-row w (b - 1) b (omega (arith, left-fits)) (eqb-false (b % w) 0 inside)
 
-    pub column-in : column < w
-    column-in = omega (arith, mod-lt b (S .ready .wide), B .column-is)
+        pub visit-left : Visiting grid picture s l p (b - 1)
+        visit-left = visiting S (b - 1) (omega (arith, B .within)) (B .near (b - 1) (or-left _ _ one-left))
 
-    pub none-right : eqb (column + 1) w ≡ true → Visited grid picture s s p p (right-of grid b)
-    none-right last =
-        let ends : b % w + 1 ≡ w = omega (arith, eqb-true (column + 1) w last, B .column-is) in
-        stays S (λ q h e. absurd (right-inside w b q e (ap (λ (x : ℕ). x % w) (right-is w b q e) ∙ row-ends w b ends)))
+    pub none-right : length picture - b ≤ 1 → Visited grid picture s s p p (right-of grid b)
+    none-right last = stays S (λ q h e. absurd (omega (arith, right-is w b q e)))
 
-    goes-on : eqb (column + 1) w ≡ false → (b + 1) % w ≡ 0 → ⊥
-    goes-on earlier =
-        row-goes-on w b (S .ready .wide) (λ e. eqb-false (column + 1) w earlier (omega (arith, B .column-is)))
+    pub row-ends : eqb ((b + 1) % w) 0 ≡ true → Visited grid picture s s p p (right-of grid b)
+    row-ends end =
+        stays S (λ q h e. absurd (right-inside w b q e (ap (λ (x : ℕ). x % w) (right-is w b q e) ∙ eqb-true ((b + 1) % w) 0 end)))
 
-    pub one-right : eqb (column + 1) w ≡ false → right-of grid b (b + 1) ≡ true
-    one-right earlier = is-next-in-row w b (b + 1) refl (goes-on earlier)
+    module _ (earlier : 1 < length picture - b) where
+      module _ (inside : eqb ((b + 1) % w) 0 ≡ false) where
+        pub one-right : right-of grid b (b + 1) ≡ true
+        one-right = is-next-in-row w b (b + 1) refl (eqb-false ((b + 1) % w) 0 inside)
 
-    pub visit-right : eqb (column + 1) w ≡ false → Visiting grid picture s l p (b + 1)
-    visit-right earlier =
-        visiting S (b + 1) (row-in w b _ (B .within) rows-whole (goes-on earlier))
-        (B .near (b + 1) (or-right (left-of grid b (b + 1)) _ (one-right earlier)))
+        pub visit-right : Visiting grid picture s l p (b + 1)
+        visit-right = visiting S (b + 1) (omega arith) (B .near (b + 1) (or-right (left-of grid b (b + 1)) _ one-right))
 
   -- p is a base
-  pub based-here : {column : ℕ} → column ≡ p % w → Based grid picture p p column
-  based-here is =
+  pub based-here : Based grid picture p p
+  based-here =
       record {
         within = standing-in S;
-        column-is = is;
         near = λ x e.
             by-cases
             (or-cases (left-of grid p x) (right-of grid p x) e)
             (λ left. comes grid p x (inr (inl (inl left))))
             (λ right. comes grid p x (inl (inl (inl right))));
       }
+
+  -- the rows are whole
+  rows-whole : length picture % w ≡ 0
+  rows-whole = rw (S .ready .whole) (mul-mod-right w (grid .height))
 
   -- corners: where 8 neighbours are named, those beside the pixels above and below p
   pub no-corners : (grid .neighbours ≡ 8 → ⊥) → Visited grid picture s s p p (corners grid p)
@@ -199,19 +197,17 @@ module _ {grid : Grid} {picture : List ℕ} {s : Lists} {l p : ℕ} (S : Standin
         (λ left. or-right (right-of grid p (x + w)) _ (left-up ∙ left))
         (λ right. or-left _ _ (right-up ∙ right))
 
-  module _ {column : ℕ} (is : column ≡ p % w) (eight : grid .neighbours ≡ 8) where
-    pub based-above : w ≤ p → Based grid picture p (p - w) column
+  module _ (eight : grid .neighbours ≡ 8) where
+    pub based-above : w ≤ p → Based grid picture p (p - w)
     based-above later =
         record {
           within = omega (arith, standing-in S);
-          column-is = is ∙ rw (above-row later p) at (add-mod-right (p - w) w);
           near = λ x e. comes grid p x (inr (inr (eight, beside-above later x e)));
         }
 
-    pub based-below : w < length picture - p → Based grid picture p (p + w) column
+    pub based-below : w < length picture - p → Based grid picture p (p + w)
     based-below earlier =
         record {
           within = omega arith;
-          column-is = is ∙ sym (add-mod-right p w);
           near = λ x e. comes grid p x (inl (inr (eight, e)));
         }

@@ -1,16 +1,16 @@
 -- A visit of a neighbour on the lists: nothing is stored where it is met, and where it is not it is put into its queue or takes the place at
 -- the head.
 use Prim.Native.Nat.{ℕ, suc, _≤_, _<_}
-use mathlib.Core.Bool.{true, _||_}
+use mathlib.Core.Bool.{true, false, _||_}
 use mathlib.Core.List.{List}
 use mathlib.Core.Logic.{_⊎_, inl, inr}
 use mathlib.Core.Path.{_≡_, refl, sym, ap, _∙_}
 use native.Mathlib.Omega.{arith}
 use lib.Dec.{eqb, ltb}
 use lib.ListN.{getD, length}
-use borrow.Author.Tests.{eqb-true, eq-eqb, lt-ltb, le-ltb}
+use borrow.Author.Tests.{eqb-true, eq-eqb, lt-ltb, le-ltb, ltb-true, ltb-false}
 use Rattle.sets.specs.Sets.{Positions}
-use Rattle.sets.proofs.Tests.{and-left, and-right, or-cases, or-right}
+use Rattle.sets.proofs.Tests.{or-cases, or-right}
 use Rattle.grid.specs.Neighbours.{adjacent}
 use Rattle.grid.specs.declared.Grid.{Grid}
 use Rattle.grid.proofs.Attributes.{adjacent-symmetric}
@@ -24,7 +24,7 @@ use Rattle.flooding.proofs.Following.{followed-sound, followed-at}
 use Rattle.flooding.proofs.Named.{turned-back, count-stored}
 use Rattle.flooding.proofs.Numbers.{taken-fits, pushed-number-fits, open-number, open-root, Renamed, named-pushed}
 use Rattle.queues.specs.Queues.{Lists, lists, numbers-of, state-of, Nameable, Fitting, Placing, Replaceable, Replacing}
-use Rattle.visits.specs.Visits.{head-pixel, Ready, Standing, StandsAt, Visiting, Visited, VisitedTo, met-count, unmet-at, Met-but, VisitedAround}
+use Rattle.visits.specs.Visits.{head-pixel, Ready, Standing, StandsAt, Visiting, Visited, VisitedTo, met-test, met-count, Met-but, VisitedAround}
 
 -- a pixel in its queue, and the parents and roots that the numbers stand for then, are a step of the flood
 pub pushes :
@@ -109,6 +109,12 @@ module _ {grid : Grid} {picture : List ℕ} {s : Lists} where
         raised = λ ne. absurd (ne refl);
         met = λ e. met;
       }
+
+  -- the only pixel on a side is met
+  pub met-already :
+      {l p q : ℕ} {side : Positions} → Standing grid picture s l p → ((x : ℕ) → side x ≡ true → x ≡ q)
+      → met-test (length picture) (s .words) q ≡ true → Visited grid picture s s p p side
+  met-already {q = q} S only met = stays S (λ x hx h. rw (only x h) (ltb-true (number-at (s .words) q) _ met))
 
   module _ {s' : Lists} {p r : ℕ} {side : Positions} (U : Visited grid picture s s' p r side) where
     -- after a visit that stays, the flood stands where it stood
@@ -220,9 +226,12 @@ module _ {grid : Grid} {picture : List ℕ} {s : Lists} where
     abbrev R : Ready grid picture s l
     R = U .standing .ready
 
-    pub already : (number-at (s .words) q ≡ length picture → ⊥) → VisitedTo grid picture s s l l p (eqb q)
-    already ne =
-        no-visit (stays (U .standing) (λ x hx h. let e = eqb-true q x h in rw (sym e) (omega (arith, R .named .range q (U .within)))))
+    pub already : met-test (length picture) (s .words) q ≡ true → VisitedTo grid picture s s l l p (eqb q)
+    already met = no-visit (met-already (U .standing) (λ x h. sym (eqb-true q x h)) met)
+
+    -- a pixel that is not met has no number
+    pub unnumbered : met-test (length picture) (s .words) q ≡ false → number-at (s .words) q ≡ length picture
+    unnumbered new = omega (arith, R .named .range q (U .within), ltb-false (number-at (s .words) q) _ new)
 
     -- no node is open at a brighter level
     no-root : l < grey picture q → length picture ≤ R .root (grey picture q)
@@ -240,19 +249,19 @@ module _ {grid : Grid} {picture : List ℕ} {s : Lists} where
         (λ ge. omega (arith, R .named .opens (grey picture q) (R .bytes q)))
 
     module _ (new : number-at (s .words) q ≡ length picture) where
-      unmet : R .par q ≡ length picture
-      unmet = R .named .unmet q (U .within) new
+      no-parent : R .par q ≡ length picture
+      no-parent = R .named .unmet q (U .within) new
 
       -- p is met, and q was not
       other : q ≡ p → ⊥
-      other e = let met : R .par p < length picture = standing-met (U .standing) in omega (arith, ap (R .par) e, unmet)
+      other e = let met : R .par p < length picture = standing-met (U .standing) in omega (arith, ap (R .par) e, no-parent)
 
       pub fits : Fitting (length picture) q (grey picture q) (s .words) (s .tails) (s .opened)
       fits =
           record {
             sized = R .sized;
             within = U .within;
-            free = tail-lt (R .sound) (R .bytes q) (U .within) unmet;
+            free = tail-lt (R .sound) (R .bytes q) (U .within) no-parent;
             wide-tails = R .wide-tails;
             nameable = nameable-for R (R .bytes q) (U .within) new;
           }
@@ -297,15 +306,15 @@ module _ {grid : Grid} {picture : List ℕ} {s : Lists} where
                 root = N .root';
                 named = N .named;
                 sound =
-                    met-sound (R .sound) (R .bytes q) (U .within) refl unmet step (λ x h. R .bytes x)
+                    met-sound (R .sound) (R .bytes q) (U .within) refl no-parent step (λ x h. R .bytes x)
                     (reaches (R .sound) A (U .standing .here) (U .within) (U .next));
-                at = met-at (R .sound) (R .bytes q) (U .within) refl unmet step l k A which;
+                at = met-at (R .sound) (R .bytes q) (U .within) refl no-parent step l k A which;
               }
 
           same-head : head-pixel (length picture) after l ≡ head-pixel (length picture) s l
           same-head =
               let A = R .at in
-              met-ord (R .sound) (R .bytes q) (U .within) refl unmet (pushes (s .heads) P renamed) l (A .level)
+              met-ord (R .sound) (R .bytes q) (U .within) refl no-parent (pushes (s .heads) P renamed) l (A .level)
               (A .busy l (A .level) (A .open-here))
 
           queued-stands : {r : ℕ} → ((l < grey picture q) × (r ≡ q)) ⊎ ((grey picture q ≤ l) × (r ≡ p)) → StandsAt grid picture after r
@@ -355,16 +364,14 @@ then-climbs {side₁ = side₁} A B ne only = covers (visits A refl (climbs B ne
 
 -- q, the neighbour of p on a side that has no other pixel, is not met and of p's level: it takes p's place at the head
 module _ {grid : Grid} {picture : List ℕ} {s : Lists} {l p q : ℕ} {side : Positions} (U : Visiting grid picture s l p q)
-    (others : Met-but grid picture s p side) (only : (x : ℕ) → side x ≡ true → x ≡ q) (fresh : unmet-at picture (s .words) l q ≡ true)
+    (others : Met-but grid picture s p side) (only : (x : ℕ) → side x ≡ true → x ≡ q) (fresh : met-test (length picture) (s .words) q ≡ false)
+    (level : grey picture q ≡ l)
   where
     in-q : q < length picture
     in-q = U .within
 
     new : number-at (s .words) q ≡ length picture
-    new = eqb-true _ _ (and-left (eqb (number-at (s .words) q) (length picture)) _ fresh)
-
-    level : grey picture q ≡ l
-    level = eqb-true _ _ (and-right (eqb (number-at (s .words) q) (length picture)) _ fresh)
+    new = unnumbered U fresh
 
     abbrev S : Standing grid picture s l p
     S = U .standing

@@ -1,6 +1,6 @@
 -- What the visits ask and leave, on the lists that they are lent.
-use Prim.Native.Nat.{ℕ, _%_, _≤_, _<_}
-use mathlib.Core.Bool.{Bool, true, _&&_, _||_}
+use Prim.Native.Nat.{ℕ, _≤_, _<_}
+use mathlib.Core.Bool.{true, _&&_, _||_}
 use mathlib.Core.List.{List}
 use mathlib.Core.Logic.{_⊎_}
 use mathlib.Core.Path.{_≡_}
@@ -36,13 +36,13 @@ at-exit ws heads tails opened = held (ws .exit) (heads .exit) (tails .exit) (ope
 abbrev pub head-pixel : ℕ → Lists → ℕ → ℕ
 head-pixel n s l = order-of n (s .words) (getD (s .heads) l 0)
 
--- how many of the n pixels are met
-abbrev pub met-count : ℕ → List ℕ → ℕ
-met-count n ws = count n (λ (q : ℕ). ltb (number-at ws q) n)
+-- a pixel of n is met: it has a number
+abbrev pub met-test : ℕ → List ℕ → Positions
+met-test n ws q = ltb (number-at ws q) n
 
--- the pixel q is not met and has the grey l
-abbrev pub unmet-at : List ℕ → List ℕ → ℕ → ℕ → Bool
-unmet-at picture ws l q = eqb (number-at ws q) (length picture) && eqb (grey picture q) l
+-- how many are
+abbrev pub met-count : ℕ → List ℕ → ℕ
+met-count n ws = count n (met-test n ws)
 
 -- the flood of a picture stands at level l: the numbers stand for parents and roots, which are not stored, and those with the queues for a
 -- state of the flood
@@ -108,10 +108,9 @@ corners-below grid p q = next-on-corner (grid .width) p q
 abbrev pub corners : Grid → ℕ → Positions
 corners grid p q = eqb (grid .neighbours) 8 && either-side corners-above corners-below grid p q
 
--- b is a pixel in the column named, and those beside it are neighbours of p
-pub record Based (grid : Grid) (picture : List ℕ) (p b column : ℕ) : Type 0 where
+-- b is a pixel, and those beside it are neighbours of p
+pub record Based (grid : Grid) (picture : List ℕ) (p b : ℕ) : Type 0 where
   pub within : b < length picture
-  pub column-is : column ≡ b % grid .width
   pub near : (x : ℕ) → beside grid b x ≡ true → adjacent grid p x ≡ true
 
 -- neighbours of the pixel p, at which the flood stood, were visited, and it stands at the pixel q; where that is p, those on the side named are

@@ -1,13 +1,22 @@
 // The visits: each neighbour of the pixel at the head of the current level that is not met is put into its queue, or takes the place at the
 // head. The flood moves on at once to a brighter one that was not met.
 ghost use mathlib.Core.Path.{_≡_};
-ghost use Prim.Native.Nat.{_+_, _%_, _<_};
+ghost use Prim.Native.Nat.{_%_, _<_};
 ghost use lib.Dec.{eqb};
 ghost use lib.ListN.{length};
 ghost use Rattle.levels.specs.Workspace.{Sized};
 ghost use Rattle.visits.specs.Visits.{held, at-entry, at-exit, Standing, Visiting, above, left-of, right-of, below};
-ghost use Rattle.visits.specs.Visits.{corners-above, corners-below, corners, Based, Visited, VisitedTo, unmet-at, Met-but, VisitedAround};
+ghost use Rattle.visits.specs.Visits.{corners-above, corners-below, corners, Based, Visited, VisitedTo, met-test, Met-but, VisitedAround};
 use grid::Grid;
+
+// Whether the pixel q is met, in a picture of n pixels.
+fn met(n: usize, q: usize, ws: &[u32]) -> bool
+    requires { ⌜ Sized n (now ws) ⌝ }
+    requires { ⌜ q < n ⌝ }
+    ensures { λ r. ⌜ r ≡ met-test n (now (ws .entry)) q ⌝ }
+{
+    (ws[q] as usize) < n
+}
 
 // Visits q, a neighbour of p, the pixel at the head of the current level: it is put into its queue unless it is met. The answer is the level
 // at which the flood goes on, the brighter of the two. (Of two pixels the compiler could not tell that they differ.)
@@ -26,7 +35,7 @@ fn visit(
     ensures { λ r. ⌜ VisitedTo grid (now (picture .entry)) (at-entry ws heads tails opened) (at-exit ws heads tails opened) level r p (eqb q) ⌝ }
 {
     let n = picture.len();
-    if ws[q] as usize != n {
+    if met(n, q, ws) {
         return level;
     }
     let l = picture[q] as usize;
@@ -80,11 +89,20 @@ fn visit_down(
     visit(picture, grid, p + width, p, level, ws, heads, tails, opened)
 }
 
-// The pixel left of the base, which stands in the column named: the base is p, or the pixel above or below it.
+// Whether a row starts at q.
+fn starts_row(grid: Grid, q: usize) -> bool
+    requires { ⌜ 0 < grid .width ⌝ }
+    requires { ⌜ q < 4294967296 ⌝ }
+    ensures { λ r. ⌜ r ≡ eqb (q % grid .width) 0 ⌝ }
+{
+    q as u32 % grid.width == 0
+}
+
+// The pixel left of the base, which is p or the pixel above or below it. Whether a row starts at the base is asked only where that pixel
+// is not met: a remainder takes long, and most are met.
 fn visit_left(
     picture: &[u8],
     grid: Grid,
-    column: usize,
     base: usize,
     p: usize,
     level: usize,
@@ -94,28 +112,25 @@ fn visit_left(
     opened: &mut [usize; 262],
 ) -> usize
     requires { ⌜ Standing grid (now picture) (held ws heads tails opened) level p ⌝ }
-    requires { ⌜ Based grid (now picture) p base column ⌝ }
+    requires { ⌜ Based grid (now picture) p base ⌝ }
     ensures { λ r. ⌜ VisitedTo grid (now (picture .entry)) (at-entry ws heads tails opened) (at-exit ws heads tails opened) level r p (left-of grid base) ⌝ }
 {
-    if column == 0 {
+    if base == 0 {
+        return level;
+    }
+    if met(picture.len(), base - 1, ws) {
+        return level;
+    }
+    if starts_row(grid, base) {
         return level;
     }
     visit(picture, grid, base - 1, p, level, ws, heads, tails, opened)
-}
-
-// Whether a column is the last one.
-fn last_column(grid: Grid, column: usize) -> bool
-    requires { ⌜ column < grid .width ⌝ }
-    ensures { λ r. ⌜ r ≡ eqb (column + 1) (grid .width) ⌝ }
-{
-    column + 1 == grid.width as usize
 }
 
 // The pixel right of the base.
 fn visit_right(
     picture: &[u8],
     grid: Grid,
-    column: usize,
     base: usize,
     p: usize,
     level: usize,
@@ -125,20 +140,27 @@ fn visit_right(
     opened: &mut [usize; 262],
 ) -> usize
     requires { ⌜ Standing grid (now picture) (held ws heads tails opened) level p ⌝ }
-    requires { ⌜ Based grid (now picture) p base column ⌝ }
+    requires { ⌜ Based grid (now picture) p base ⌝ }
     ensures { λ r. ⌜ VisitedTo grid (now (picture .entry)) (at-entry ws heads tails opened) (at-exit ws heads tails opened) level r p (right-of grid base) ⌝ }
 {
-    if last_column(grid, column) {
+    let n = picture.len();
+    if n - base <= 1 {
         return level;
     }
-    visit(picture, grid, base + 1, p, level, ws, heads, tails, opened)
+    let q = base + 1;
+    if met(n, q, ws) {
+        return level;
+    }
+    if starts_row(grid, q) {
+        return level;
+    }
+    visit(picture, grid, q, p, level, ws, heads, tails, opened)
 }
 
 // The corners of p in the row above. The answer is the pixel at which the flood goes on, p where it stays.
 fn visit_corners_above(
     picture: &[u8],
     grid: Grid,
-    column: usize,
     p: usize,
     level: usize,
     ws: &mut [u32],
@@ -147,7 +169,6 @@ fn visit_corners_above(
     opened: &mut [usize; 262],
 ) -> usize
     requires { ⌜ Standing grid (now picture) (held ws heads tails opened) level p ⌝ }
-    requires { ⌜ column ≡ p % grid .width ⌝ }
     requires { ⌜ grid .neighbours ≡ 8 ⌝ }
     ensures { λ r. ⌜ Visited grid (now (picture .entry)) (at-entry ws heads tails opened) (at-exit ws heads tails opened) p r (corners-above grid p) ⌝ }
 {
@@ -156,33 +177,11 @@ fn visit_corners_above(
         return p;
     }
     let base = p - width;
-    let left = visit_left(
-        picture,
-        grid,
-        column,
-        base,
-        p,
-        level,
-        ws,
-        heads,
-        tails,
-        opened,
-    );
+    let left = visit_left(picture, grid, base, p, level, ws, heads, tails, opened);
     if left != level {
         return base - 1;
     }
-    let right = visit_right(
-        picture,
-        grid,
-        column,
-        base,
-        p,
-        level,
-        ws,
-        heads,
-        tails,
-        opened,
-    );
+    let right = visit_right(picture, grid, base, p, level, ws, heads, tails, opened);
     if right != level {
         return base + 1;
     }
@@ -193,7 +192,6 @@ fn visit_corners_above(
 fn visit_corners_below(
     picture: &[u8],
     grid: Grid,
-    column: usize,
     p: usize,
     level: usize,
     ws: &mut [u32],
@@ -202,7 +200,6 @@ fn visit_corners_below(
     opened: &mut [usize; 262],
 ) -> usize
     requires { ⌜ Standing grid (now picture) (held ws heads tails opened) level p ⌝ }
-    requires { ⌜ column ≡ p % grid .width ⌝ }
     requires { ⌜ grid .neighbours ≡ 8 ⌝ }
     ensures { λ r. ⌜ Visited grid (now (picture .entry)) (at-entry ws heads tails opened) (at-exit ws heads tails opened) p r (corners-below grid p) ⌝ }
 {
@@ -211,33 +208,11 @@ fn visit_corners_below(
         return p;
     }
     let base = p + width;
-    let left = visit_left(
-        picture,
-        grid,
-        column,
-        base,
-        p,
-        level,
-        ws,
-        heads,
-        tails,
-        opened,
-    );
+    let left = visit_left(picture, grid, base, p, level, ws, heads, tails, opened);
     if left != level {
         return base - 1;
     }
-    let right = visit_right(
-        picture,
-        grid,
-        column,
-        base,
-        p,
-        level,
-        ws,
-        heads,
-        tails,
-        opened,
-    );
+    let right = visit_right(picture, grid, base, p, level, ws, heads, tails, opened);
     if right != level {
         return base + 1;
     }
@@ -248,7 +223,6 @@ fn visit_corners_below(
 fn visit_corners(
     picture: &[u8],
     grid: Grid,
-    column: usize,
     p: usize,
     level: usize,
     ws: &mut [u32],
@@ -257,29 +231,16 @@ fn visit_corners(
     opened: &mut [usize; 262],
 ) -> usize
     requires { ⌜ Standing grid (now picture) (held ws heads tails opened) level p ⌝ }
-    requires { ⌜ column ≡ p % grid .width ⌝ }
     ensures { λ r. ⌜ Visited grid (now (picture .entry)) (at-entry ws heads tails opened) (at-exit ws heads tails opened) p r (corners grid p) ⌝ }
 {
     if grid.neighbours != 8 {
         return p;
     }
-    let over = visit_corners_above(picture, grid, column, p, level, ws, heads, tails, opened);
+    let over = visit_corners_above(picture, grid, p, level, ws, heads, tails, opened);
     if over != p {
         return over;
     }
-    visit_corners_below(picture, grid, column, p, level, ws, heads, tails, opened)
-}
-
-// Whether the pixel q is not met and has the grey named.
-fn unmet_at(picture: &[u8], q: usize, level: usize, ws: &[u32]) -> bool
-    requires { ⌜ Sized (length (now picture)) (now ws) ⌝ }
-    requires { ⌜ q < length (now picture) ⌝ }
-    ensures { λ r. ⌜ r ≡ unmet-at (now (picture .entry)) (now (ws .entry)) level q ⌝ }
-{
-    if ws[q] as usize != picture.len() {
-        return false;
-    }
-    picture[q] as usize == level
+    visit_corners_below(picture, grid, p, level, ws, heads, tails, opened)
 }
 
 // The neighbour right of p, the last one. Where it is not met and of the same level, p is done, and it takes p's place at the head of the
@@ -287,7 +248,6 @@ fn unmet_at(picture: &[u8], q: usize, level: usize, ws: &[u32]) -> bool
 fn visit_last(
     picture: &[u8],
     grid: Grid,
-    column: usize,
     p: usize,
     level: usize,
     ws: &mut [u32],
@@ -296,17 +256,23 @@ fn visit_last(
     opened: &mut [usize; 262],
 ) -> usize
     requires { ⌜ Standing grid (now picture) (held ws heads tails opened) level p ⌝ }
-    requires { ⌜ column ≡ p % grid .width ⌝ }
     requires { ⌜ Met-but grid (now picture) (held ws heads tails opened) p (right-of grid p) ⌝ }
     ensures { λ r. ⌜ VisitedAround grid (now (picture .entry)) (at-entry ws heads tails opened) (at-exit ws heads tails opened) p r ⌝ }
 {
-    if last_column(grid, column) {
+    let n = picture.len();
+    if n - p <= 1 {
         return p;
     }
     let q = p + 1;
-    if unmet_at(picture, q, level, ws) {
+    if met(n, q, ws) {
+        return p;
+    }
+    if starts_row(grid, q) {
+        return p;
+    }
+    if picture[q] as usize == level {
         let head = heads[level];
-        queues::replace(picture.len(), q, level, head, ws, opened);
+        queues::replace(n, q, level, head, ws, opened);
         return q;
     }
     let right = visit(picture, grid, q, p, level, ws, heads, tails, opened);
@@ -332,12 +298,11 @@ pub fn visit_around(
     ensures { λ r. ⌜ VisitedAround grid (now (picture .entry)) (at-entry ws heads tails opened) (at-exit ws heads tails opened) p r ⌝ }
 {
     let width = grid.width as usize;
-    let column = (p as u32 % grid.width) as usize;
     let up = visit_up(picture, grid, p, level, ws, heads, tails, opened);
     if up != level {
         return p - width;
     }
-    let left = visit_left(picture, grid, column, p, p, level, ws, heads, tails, opened);
+    let left = visit_left(picture, grid, p, p, level, ws, heads, tails, opened);
     if left != level {
         return p - 1;
     }
@@ -345,9 +310,9 @@ pub fn visit_around(
     if down != level {
         return p + width;
     }
-    let corner = visit_corners(picture, grid, column, p, level, ws, heads, tails, opened);
+    let corner = visit_corners(picture, grid, p, level, ws, heads, tails, opened);
     if corner != p {
         return corner;
     }
-    visit_last(picture, grid, column, p, level, ws, heads, tails, opened)
+    visit_last(picture, grid, p, level, ws, heads, tails, opened)
 }

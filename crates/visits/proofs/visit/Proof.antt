@@ -1,85 +1,62 @@
 -- `visit` meets its contract: a pixel that is met leaves all as it was, and one that is not is put into its queue.
 use mathlib.Core.Logic.{inl, inr}
-use mathlib.Core.Path.{refl}
+use mathlib.Core.Path.{_≡_, refl, sym, _∙_}
 use native.Mathlib.Omega.{arith}
-use Rattle.visits.proofs.Visits.{already, not-open, fits, queued-to}
+use lib.ListN.{length}
+use Rattle.levels.specs.Workspace.{number-at}
+use Rattle.visits.proofs.Visits.{already, unnumbered, not-open, fits, queued-to}
 use borrow.Author.Needs.{needs}
 use Rattle.visits.proofs.visit.Statement.{statement}
 use Rattle.visits.proofs.visit.Tie as tie
 
-mul-if1 : tie.Need-mul-if1
-mul-if1 c = search needs
+new : (c : tie.Else1) → number-at (c .before .before .before .before .before .args .ws .now) (c .before .before .before .before .before .args .q) ≡ length (c .before .before .before .before .before .args .picture .now)
+new c = unnumbered (c .before .before .before .before .before .pre) (sym (c .before .met .ensures) ∙ c .if1 .left)
 
-slice-read-if1 : tie.Need-slice-read-if1
-slice-read-if1 c = search needs
+met-requires : tie.Need-met-requires
+met-requires c κs = (c .before .before .before .pre .standing .ready .sized, c .before .before .before .pre .within)
 
-cast-if1 : tie.Need-cast-if1
-cast-if1 c = omega (arith, c .slice-known2 .given ((c .before .before .before) .args .q))
+same-length : tie.Need-same-length
+same-length c = search needs
 
 returns : tie.Need-returns
-returns c = already (c .before .before .before .before .pre) (c .if1 .taken)
+returns c = already (c .before .before .before .before .before .pre) (sym (c .before .met .ensures) ∙ c .if1 .taken)
 
 shared-slice-read-l : tie.Need-shared-slice-read-l
 shared-slice-read-l c = search needs
 
 cast-l : tie.Need-cast-l
-cast-l c = omega (arith, c .shared-slice-known2 .given ((c .before .before .before .before .before) .args .q))
+cast-l c = omega (arith, c .shared-slice-known2 .given (c .before .before .before .before .before .before .args .q))
 
 push-first-requires : tie.Need-push-first-requires
-push-first-requires c κs =
-    let brighter = c .before .before .before in
-    let new = brighter .before .before in
-    let pre = new .before .before .before .before .pre in
-    (fits pre (new .if1 .left), not-open pre (brighter .if2 .taken))
-
-same-length : tie.Need-same-length
-same-length c = search needs
-
-returns-2 : tie.Need-returns-2
-returns-2 c =
-    let done = c .before .before in
-    let which = done .before .before .before .before in
-    let new = which .before .before in
-    queued-to
-    (new .before .before .before .before .pre)
-    (new .if1 .left)
-    (done .push-first .kept .1 .1 .1 .0)
-    (done .push-first .ensures)
-    (inl (which .if2 .taken, refl))
-
-push-requires : tie.Need-push-requires
-push-requires c κs =
-    let new = c .before .before .before .before .before in
-    fits (new .before .before .before .before .pre) (new .if1 .left)
+push-first-requires c κs = (fits (c .before .before .before .before .before .before .before .before .before .before .pre) (new (c .before .before .before .before .before)), not-open (c .before .before .before .before .before .before .before .before .before .before .pre) (c .before .before .before .if2 .taken))
 
 same-length-2 : tie.Need-same-length-2
 same-length-2 c = search needs
 
+returns-2 : tie.Need-returns-2
+returns-2 c = queued-to (c .before .before .before .before .before .before .before .before .before .before .before .before .before .pre) (new (c .before .before .before .before .before .before .before .before)) (c .before .before .push-first .kept .1 .1 .1 .0) (c .before .before .push-first .ensures) (inl (c .before .before .before .before .before .before .if2 .taken, refl))
+
+push-requires : tie.Need-push-requires
+push-requires c κs = fits (c .before .before .before .before .before .before .before .before .before .before .pre) (new (c .before .before .before .before .before))
+
+same-length-3 : tie.Need-same-length-3
+same-length-3 c = search needs
+
 returns-3 : tie.Need-returns-3
-returns-3 c =
-    let done = c .before .before in
-    let which = done .before .before .before .before in
-    let new = which .before .before in
-    queued-to
-    (new .before .before .before .before .pre)
-    (new .if1 .left)
-    (done .push .kept .1 .1 .1 .0)
-    (done .push .ensures)
-    (inr (which .if2 .left, refl))
+returns-3 c = queued-to (c .before .before .before .before .before .before .before .before .before .before .before .before .before .pre) (new (c .before .before .before .before .before .before .before .before)) (c .before .before .push .kept .1 .1 .1 .0) (c .before .before .push .ensures) (inr (c .before .before .before .before .before .before .if2 .left, refl))
 
 pub visit-spec : {M : Type 1} → statement M
 visit-spec =
     tie.close
     (tie.spec
-    mul-if1
-    slice-read-if1
-    cast-if1
+    met-requires
+    same-length
     returns
     shared-slice-read-l
     cast-l
     push-first-requires
-    same-length
+    same-length-2
     returns-2
     push-requires
-    same-length-2
+    same-length-3
     returns-3)

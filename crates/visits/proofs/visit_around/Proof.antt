@@ -2,7 +2,6 @@
 -- side.
 use Prim.Native.Nat.{ℕ}
 use mathlib.Core.Path.{refl}
-use native.Mathlib.Nat.{mod-lt, mod-le}
 use native.Mathlib.Omega.{arith}
 use borrow.Author.Needs.{needs}
 use Rattle.sets.specs.Sets.{Positions}
@@ -17,7 +16,7 @@ use Rattle.visits.proofs.visit_around.Tie as tie
 
 -- from where a visit stayed back to where the one before it did
 abbrev start : tie.After-visit-up → tie.Start
-start c = c .before .before .before .before .before .before .before .before
+start c = c .before .before .before .before .before .before .before
 
 abbrev up : tie.Else2 → tie.Else1
 up c = c .before .before .before .before .before .before .before
@@ -44,7 +43,7 @@ upto-up c = c .before .before .before .visit-up .ensures .stayed (c .if1 .left)
 
 abbrev lists-left : tie.Else2 → Lists
 lists-left c =
-    let last = c .before .before .before .visit-left .last .1 .1 .1 .1 .1 .1 in
+    let last = c .before .before .before .visit-left .last .1 .1 .1 .1 .1 in
     lists (last .0) (start (up c .before .before .before) .args .heads .now) (last .1 .1 .0) (last .1 .1 .1 .0)
 
 upto-left : (c : tie.Else2) → Stayed (start (up c .before .before .before)) (lists-left c) (either-side above left-of)
@@ -60,7 +59,7 @@ upto-down c = visits (upto-left (left c)) refl (c .before .before .before .visit
 
 abbrev lists-corners : tie.Else4 → Lists
 lists-corners c =
-    let last = c .before .before .before .visit-corners .last .1 .1 .1 .1 .1 in
+    let last = c .before .before .before .visit-corners .last .1 .1 .1 .1 in
     lists (last .0) (start (up (left (down c)) .before .before .before) .args .heads .now) (last .1 .1 .0) (last .1 .1 .1 .0)
 
 upto-corners : (c : tie.Else4) → Stayed (start (up (left (down c)) .before .before .before)) (lists-corners c) not-right
@@ -68,19 +67,6 @@ upto-corners c = visits (upto-down (down c)) refl (settled (c .before .before .b
 
 cast-width : tie.Need-cast-width
 cast-width c = search needs
-
-cast-column : tie.Need-cast-column
-cast-column c =
-    let pre = c .before .before .before .pre in
-    omega (arith, standing-in pre, pre .ready .sized .small)
-
-rem-column : tie.Need-rem-column
-rem-column c = search needs
-
-cast-column-2 : tie.Need-cast-column-2
-cast-column-2 c =
-    let at = c .before .before .before .before in
-    omega (arith, mod-lt (at .args .p) (at .pre .ready .wide), standing-in (at .pre), at .pre .ready .sized .small, mod-le (at .args .p) (at .args .grid .width))
 
 visit-up-requires : tie.Need-visit-up-requires
 visit-up-requires c κs = search needs
@@ -104,7 +90,7 @@ visit-left-requires : tie.Need-visit-left-requires
 visit-left-requires c κs =
     let stayed = c .before .before .before in
     let stands = still (upto-up stayed) (start (stayed .before .before .before) .pre) refl in
-    (stands, based-here stands refl)
+    (stands, based-here stands)
 
 sub-result-2 : tie.Need-sub-result-2
 sub-result-2 c =
@@ -134,7 +120,7 @@ same-length-3 : tie.Need-same-length-3
 same-length-3 c = same-words (returns-3 c) (start (up (c .before .before .before .before .before .before .before) .before .before .before) .pre)
 
 visit-corners-requires : tie.Need-visit-corners-requires
-visit-corners-requires c κs = let stayed = c .before .before .before in (still (upto-down stayed) (start (up (left stayed) .before .before .before) .pre) refl, refl)
+visit-corners-requires c κs = let stayed = c .before .before .before in still (upto-down stayed) (start (up (left stayed) .before .before .before) .pre) refl
 
 returns-4 : tie.Need-returns-4
 returns-4 c = moved (visits (upto-down (c .before .before .before .before .before .before .before)) refl (c .before .before .before .visit-corners .ensures)) (c .if4 .taken)
@@ -145,7 +131,7 @@ same-length-4 c = same-words (returns-4 c) (start (up (left (c .before .before .
 visit-last-requires : tie.Need-visit-last-requires
 visit-last-requires c κs =
     let stayed = c .before .before .before in
-    (still (upto-corners stayed) (start (up (left (down stayed)) .before .before .before) .pre) refl, (refl, met-but-right (upto-corners stayed) refl))
+    (still (upto-corners stayed) (start (up (left (down stayed)) .before .before .before) .pre) refl, met-but-right (upto-corners stayed) refl)
 
 returns-5 : tie.Need-returns-5
 returns-5 c =
@@ -160,9 +146,6 @@ visit-around-spec =
     tie.close
     (tie.spec
     cast-width
-    cast-column
-    rem-column
-    cast-column-2
     visit-up-requires
     sub-result
     same-length

@@ -11,9 +11,9 @@ use borrow.Author.Needs.{needs}
 use Rattle.visits.proofs.visit_corners_above.Statement.{statement}
 use Rattle.visits.proofs.visit_corners_above.Tie as tie
 
-based : (c : tie.Else1) → Based (c .before .before .before .before .args .grid) (c .before .before .before .before .args .picture .now) (c .before .before .before .before .args .p) (c .before .before .before .before .args .p - c .before .before .before .before .args .grid .width) (c .before .before .before .before .args .column)
+based : (c : tie.Else1) → Based (c .before .before .before .before .args .grid) (c .before .before .before .before .args .picture .now) (c .before .before .before .before .args .p) (c .before .before .before .before .args .p - c .before .before .before .before .args .grid .width)
 based c =
-    based-above (c .before .before .before .before .pre .0) (c .before .before .before .before .pre .1 .0) (c .before .before .before .before .pre .1 .1) (c .if1 .left)
+    based-above (c .before .before .before .before .pre .0) (c .before .before .before .before .pre .1) (c .if1 .left)
 
 cast-width : tie.Need-cast-width
 cast-width c = search needs

@@ -1,6 +1,8 @@
--- `visit_left` meets its contract. A pixel of the first column has none to its left.
-use Rattle.visits.proofs.Visits.{no-visit, on-side-to}
-use Rattle.visits.proofs.Beside.{none-left, left-fits, visit-left, one-left, is-left}
+-- `visit_left` meets its contract. A pixel at which a row starts has none to its left.
+use mathlib.Core.Path.{sym, _∙_}
+use native.Mathlib.Omega.{arith}
+use Rattle.visits.proofs.Visits.{no-visit, met-already, on-side-to}
+use Rattle.visits.proofs.Beside.{none-left, row-starts, left-fits, visit-left, one-left, is-left}
 use borrow.Author.Needs.{needs}
 use Rattle.visits.proofs.visit_left.Statement.{statement}
 use Rattle.visits.proofs.visit_left.Tie as tie
@@ -8,19 +10,57 @@ use Rattle.visits.proofs.visit_left.Tie as tie
 returns : tie.Need-returns
 returns c = no-visit (none-left (c .before .before .before .pre .0) (c .before .before .before .pre .1) (c .if1 .taken))
 
-sub-visit : tie.Need-sub-visit
-sub-visit c = left-fits (c .before .before .before .pre .0) (c .before .before .before .pre .1) (c .if1 .left)
+sub-met : tie.Need-sub-met
+sub-met c = left-fits (c .before .before .before .pre .0) (c .before .before .before .pre .1) (c .if1 .left)
 
-visit-requires : tie.Need-visit-requires
-visit-requires c κs = visit-left (c .before .before .before .before .before .before .pre .0) (c .before .before .before .before .before .before .pre .1) (c .before .before .before .if1 .left)
+met-requires : tie.Need-met-requires
+met-requires c κs = (c .before .before .before .before .pre .0 .ready .sized, omega (arith, c .before .before .before .before .pre .1 .within))
 
 same-length : tie.Need-same-length
 same-length c = search needs
 
 returns-2 : tie.Need-returns-2
-returns-2 c =
-    let at = (c .before .before .before .before .before .before .before .before .before) in
-    on-side-to (c .before .before .visit .ensures) (is-left (at .args .grid) (at .args .base)) (one-left (at .pre .0) (at .pre .1) (c .before .before .before .before .before .before .if1 .left))
+returns-2 c = no-visit (met-already (c .before .before .before .before .before .before .pre .0) (is-left (c .before .before .before .before .before .before .args .grid) (c .before .before .before .before .before .before .args .base)) (sym (c .before .met .ensures) ∙ c .if2 .taken))
+
+starts-row-requires : tie.Need-starts-row-requires
+starts-row-requires c κs = (c .before .before .before .before .before .before .pre .0 .ready .wide, omega (arith, c .before .before .before .before .before .before .pre .1 .within, c .before .before .before .before .before .before .pre .0 .ready .sized .small))
+
+same-length-2 : tie.Need-same-length-2
+same-length-2 c = search needs
+
+returns-3 : tie.Need-returns-3
+returns-3 c = no-visit (row-starts (c .before .before .before .before .before .before .before .before .pre .0) (c .before .before .before .before .before .before .before .before .pre .1) (sym (c .before .starts-row .ensures) ∙ c .if3 .taken))
+
+sub-visit : tie.Need-sub-visit
+sub-visit c = left-fits (c .before .before .before .before .before .before .before .before .pre .0) (c .before .before .before .before .before .before .before .before .pre .1) (c .before .before .before .before .before .if1 .left)
+
+visit-requires : tie.Need-visit-requires
+visit-requires c κs = visit-left (c .before .before .before .before .before .before .before .before .before .before .before .pre .0) (c .before .before .before .before .before .before .before .before .before .before .before .pre .1) (c .before .before .before .before .before .before .before .before .if1 .left) (sym (c .before .before .before .before .starts-row .ensures) ∙ c .before .before .before .if3 .left)
+
+same-length-3 : tie.Need-same-length-3
+same-length-3 c = search needs
+
+returns-4 : tie.Need-returns-4
+returns-4 c =
+    let at = (c .before .before .before .before .before .before .before .before .before .before .before .before .before .before) in
+    on-side-to
+    (c .before .before .visit .ensures)
+    (is-left (at .args .grid) (at .args .base))
+    (one-left (at .pre .0) (at .pre .1) (c .before .before .before .before .before .before .before .before .before .before .before .if1 .left) (sym (c .before .before .before .before .before .before .before .starts-row .ensures) ∙ c .before .before .before .before .before .before .if3 .left))
 
 pub visit-left-spec : {M : Type 1} → statement M
-visit-left-spec = tie.close (tie.spec returns sub-visit visit-requires same-length returns-2)
+visit-left-spec =
+    tie.close
+    (tie.spec
+    returns
+    sub-met
+    met-requires
+    same-length
+    returns-2
+    starts-row-requires
+    same-length-2
+    returns-3
+    sub-visit
+    visit-requires
+    same-length-3
+    returns-4)
