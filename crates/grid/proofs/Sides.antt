@@ -74,6 +74,14 @@ module _ (w p : ℕ) where
       (λ ne. ne-eqb (q + w) (p + w + 1) (λ e. ne (omega arith)) ∙ sym (ne-eqb _ _ ne)) in
       rw (places, add-mod-right q w)
 
+  -- a row goes on within the picture
+  pub row-in : (n : ℕ) → p < n → n % w ≡ 0 → ((p + 1) % w ≡ 0 → ⊥) → p + 1 < n
+  row-in n h whole ne =
+      by-cases
+      (ℕ-discrete (p + 1) n)
+      (λ e. absurd (ne (ap (λ (x : ℕ). x % w) e ∙ whole)))
+      (λ far. omega arith)
+
 -- every pixel but the first has a neighbour before it, in its row or above
 neighbour-before : (c w : ℕ) → 0 < w → (q : ℕ) → 0 < q → (r : ℕ) × (r < q) × (neighbours c w r q ≡ true)
 neighbour-before c w h q hq =

@@ -14,7 +14,7 @@ use Rattle.sets.specs.Sets.{Positions}
 use Rattle.sets.proofs.Tests.{and-left, and-right, and-both, or-cases, or-left, or-right}
 use Rattle.grid.specs.Neighbours.{adjacent}
 use Rattle.grid.specs.declared.Grid.{Grid}
-use Rattle.grid.proofs.Sides.{After, forth, back, side-of, below-is, right-is, right-inside, is-next-in-row, is-next-in-column, row-down}
+use Rattle.grid.proofs.Sides.{After, forth, back, side-of, below-is, right-is, right-inside, is-next-in-row, is-next-in-column, row-in, row-down}
 use Rattle.levels.proofs.Counts.{by-cases}
 use Rattle.queues.specs.Queues.{Lists}
 use Rattle.visits.specs.Visits.{Standing, Visiting, above, left-of, right-of, below, either-side, beside, corners-above, corners-below, corners, Based, Visited, Met-but}
@@ -99,6 +99,10 @@ module _ {grid : Grid} {picture : List ℕ} {s : Lists} {l p : ℕ} (S : Standin
   visit-below earlier =
       visiting S (p + w) (omega arith) (comes grid p (p + w) (inl (inl (inr (one-below grid p)))))
 
+  -- the rows are whole
+  rows-whole : length picture % w ≡ 0
+  rows-whole = rw (S .ready .whole) (mul-mod-right w (grid .height))
+
   -- beside a base: none on the left where a row starts there, none on the right where one starts after it
   module _ {b : ℕ} (B : Based grid picture p b) where
     pub none-left : b ≡ 0 → Visited grid picture s s p p (left-of grid b)
@@ -118,20 +122,18 @@ module _ {grid : Grid} {picture : List ℕ} {s : Lists} {l p : ℕ} (S : Standin
         pub visit-left : Visiting grid picture s l p (b - 1)
         visit-left = visiting S (b - 1) (omega (arith, B .within)) (B .near (b - 1) (or-left _ _ one-left))
 
-    pub none-right : length picture - b ≤ 1 → Visited grid picture s s p p (right-of grid b)
-    none-right last = stays S (λ q h e. absurd (omega (arith, right-is w b q e)))
-
     pub row-ends : eqb ((b + 1) % w) 0 ≡ true → Visited grid picture s s p p (right-of grid b)
     row-ends end =
         stays S (λ q h e. absurd (right-inside w b q e (ap (λ (x : ℕ). x % w) (right-is w b q e) ∙ eqb-true ((b + 1) % w) 0 end)))
 
-    module _ (earlier : 1 < length picture - b) where
-      module _ (inside : eqb ((b + 1) % w) 0 ≡ false) where
-        pub one-right : right-of grid b (b + 1) ≡ true
-        one-right = is-next-in-row w b (b + 1) refl (eqb-false ((b + 1) % w) 0 inside)
+    module _ (inside : eqb ((b + 1) % w) 0 ≡ false) where
+      pub one-right : right-of grid b (b + 1) ≡ true
+      one-right = is-next-in-row w b (b + 1) refl (eqb-false ((b + 1) % w) 0 inside)
 
-        pub visit-right : Visiting grid picture s l p (b + 1)
-        visit-right = visiting S (b + 1) (omega arith) (B .near (b + 1) (or-right (left-of grid b (b + 1)) _ one-right))
+      pub visit-right : Visiting grid picture s l p (b + 1)
+      visit-right =
+          visiting S (b + 1) (row-in w b _ (B .within) rows-whole (eqb-false ((b + 1) % w) 0 inside))
+          (B .near (b + 1) (or-right (left-of grid b (b + 1)) _ one-right))
 
   -- p is a base
   pub based-here : Based grid picture p p
@@ -144,10 +146,6 @@ module _ {grid : Grid} {picture : List ℕ} {s : Lists} {l p : ℕ} (S : Standin
             (λ left. comes grid p x (inr (inl (inl left))))
             (λ right. comes grid p x (inl (inl (inl right))));
       }
-
-  -- the rows are whole
-  rows-whole : length picture % w ≡ 0
-  rows-whole = rw (S .ready .whole) (mul-mod-right w (grid .height))
 
   -- corners: where 8 neighbours are named, those beside the pixels above and below p
   pub no-corners : (grid .neighbours ≡ 8 → ⊥) → Visited grid picture s s p p (corners grid p)

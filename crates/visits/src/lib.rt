@@ -1,7 +1,7 @@
 // The visits: each neighbour of the pixel at the head of the current level that is not met is put into its queue, or takes the place at the
 // head. The flood moves on at once to a brighter one that was not met.
 ghost use mathlib.Core.Path.{_≡_};
-ghost use Prim.Native.Nat.{_%_, _<_};
+ghost use Prim.Native.Nat.{_%_, _≤_, _<_};
 ghost use lib.Dec.{eqb};
 ghost use lib.ListN.{length};
 ghost use Rattle.levels.specs.Workspace.{Sized};
@@ -9,10 +9,11 @@ ghost use Rattle.visits.specs.Visits.{held, at-entry, at-exit, Standing,
 ghost use Rattle.visits.specs.Visits.{corners-above, corners-below, corners, Based, Visited, VisitedTo, met-test, Met-but, VisitedAround};
 use grid::Grid;
 
-// Whether the pixel q is met, in a picture of n pixels.
+// Whether the pixel q is met, in a picture of n pixels. It may be asked of n too, where no pixel is.
 fn met(n: usize, q: usize, ws: &[u32]) -> bool
     requires { ⌜ Sized n (now ws) ⌝ }
-    requires { ⌜ q < n ⌝ }
+    requires { ⌜ 0 < n ⌝ }
+    requires { ⌜ q ≤ n ⌝ }
     ensures { λ r. ⌜ r ≡ met-test n (now (ws .entry)) q ⌝ }
 {
     (ws[q] as usize) < n
@@ -127,7 +128,7 @@ fn visit_left(
     visit(picture, grid, base - 1, p, level, ws, heads, tails, opened)
 }
 
-// The pixel right of the base.
+// The pixel right of the base. After the last pixel a row would start.
 fn visit_right(
     picture: &[u8],
     grid: Grid,
@@ -143,12 +144,8 @@ fn visit_right(
     requires { ⌜ Based grid (now picture) p base ⌝ }
     ensures { λ r. ⌜ VisitedTo grid (now (picture .entry)) (at-entry ws heads tails opened) (at-exit ws heads tails opened) level r p (right-of grid base) ⌝ }
 {
-    let n = picture.len();
-    if n - base <= 1 {
-        return level;
-    }
     let q = base + 1;
-    if met(n, q, ws) {
+    if met(picture.len(), q, ws) {
         return level;
     }
     if starts_row(grid, q) {
@@ -260,9 +257,6 @@ fn visit_last(
     ensures { λ r. ⌜ VisitedAround grid (now (picture .entry)) (at-entry ws heads tails opened) (at-exit ws heads tails opened) p r ⌝ }
 {
     let n = picture.len();
-    if n - p <= 1 {
-        return p;
-    }
     let q = p + 1;
     if met(n, q, ws) {
         return p;

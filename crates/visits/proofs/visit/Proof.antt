@@ -13,7 +13,7 @@ new : (c : tie.Else1) → number-at (c .before .before .before .before .before .
 new c = unnumbered (c .before .before .before .before .before .pre) (sym (c .before .met .ensures) ∙ c .if1 .left)
 
 met-requires : tie.Need-met-requires
-met-requires c κs = (c .before .before .before .pre .standing .ready .sized, c .before .before .before .pre .within)
+met-requires c κs = (c .before .before .before .pre .standing .ready .sized, (omega (arith, c .before .before .before .pre .within), omega (arith, c .before .before .before .pre .within)))
 
 same-length : tie.Need-same-length
 same-length c = search needs

@@ -6,47 +6,41 @@ use native.Mathlib.Omega.{arith}
 use borrow.Author.Tests.{eqb-true}
 use Rattle.visits.specs.Visits.{held, Based, Visiting}
 use Rattle.visits.proofs.Visits.{standing-in, met-already, on-side, covers, climbs, replaceable, follows}
-use Rattle.visits.proofs.Beside.{based-here, none-right, row-ends, visit-right, is-right}
+use Rattle.visits.proofs.Beside.{based-here, row-ends, visit-right, is-right}
 use borrow.Author.Needs.{needs}
 use Rattle.visits.proofs.visit_last.Statement.{statement}
 use Rattle.visits.proofs.visit_last.Tie as tie
 
-on-right : (c : tie.Else3) → Visiting (c .before .before .before .before .before .before .before .before .args .grid) (c .before .before .before .before .before .before .before .before .args .picture .now) (held (c .before .before .before .before .before .before .before .before .args .ws) (c .before .before .before .before .before .before .before .before .args .heads) (c .before .before .before .before .before .before .before .before .args .tails) (c .before .before .before .before .before .before .before .before .args .opened)) (c .before .before .before .before .before .before .before .before .args .level) (c .before .before .before .before .before .before .before .before .args .p) (c .before .before .before .before .before .before .before .before .args .p + 1)
+on-right : (c : tie.Else2) → Visiting (c .before .before .before .before .before .before .before .args .grid) (c .before .before .before .before .before .before .before .args .picture .now) (held (c .before .before .before .before .before .before .before .args .ws) (c .before .before .before .before .before .before .before .args .heads) (c .before .before .before .before .before .before .before .args .tails) (c .before .before .before .before .before .before .before .args .opened)) (c .before .before .before .before .before .before .before .args .level) (c .before .before .before .before .before .before .before .args .p) (c .before .before .before .before .before .before .before .args .p + 1)
 on-right c =
-    visit-right (c .before .before .before .before .before .before .before .before .pre .0) (based-here (c .before .before .before .before .before .before .before .before .pre .0)) (c .before .before .before .before .before .if1 .left) (sym (c .before .starts-row .ensures) ∙ c .if3 .left)
-
-sub-if1 : tie.Need-sub-if1
-sub-if1 c = omega (arith, standing-in (c .before .before .pre .0))
-
-returns : tie.Need-returns
-returns c = covers (none-right (c .before .before .before .pre .0) (based-here (c .before .before .before .pre .0)) (c .if1 .taken)) (c .before .before .before .pre .1)
+    visit-right (c .before .before .before .before .before .before .before .pre .0) (based-here (c .before .before .before .before .before .before .before .pre .0)) (sym (c .before .starts-row .ensures) ∙ c .if2 .left)
 
 add-q : tie.Need-add-q
-add-q c = omega (arith, standing-in (c .before .before .before .pre .0), c .before .before .before .pre .0 .ready .sized .small)
+add-q c = omega (arith, standing-in (c .before .before .pre .0), c .before .before .pre .0 .ready .sized .small)
 
 met-requires : tie.Need-met-requires
-met-requires c κs = (c .before .before .before .before .pre .0 .ready .sized, omega (arith, c .before .if1 .left))
+met-requires c κs = (c .before .before .before .pre .0 .ready .sized, (omega (arith, standing-in (c .before .before .before .pre .0)), omega (arith, standing-in (c .before .before .before .pre .0))))
 
 same-length : tie.Need-same-length
 same-length c = search needs
 
-returns-2 : tie.Need-returns-2
-returns-2 c = covers (met-already (c .before .before .before .before .before .before .pre .0) (is-right (c .before .before .before .before .before .before .args .grid) (c .before .before .before .before .before .before .args .p)) (sym (c .before .met .ensures) ∙ c .if2 .taken)) (c .before .before .before .before .before .before .pre .1)
+returns : tie.Need-returns
+returns c = covers (met-already (c .before .before .before .before .before .pre .0) (is-right (c .before .before .before .before .before .args .grid) (c .before .before .before .before .before .args .p)) (sym (c .before .met .ensures) ∙ c .if1 .taken)) (c .before .before .before .before .before .pre .1)
 
 starts-row-requires : tie.Need-starts-row-requires
-starts-row-requires c κs = (c .before .before .before .before .before .before .pre .0 .ready .wide, omega (arith, standing-in (c .before .before .before .before .before .before .pre .0), c .before .before .before .before .before .before .pre .0 .ready .sized .small))
+starts-row-requires c κs = (c .before .before .before .before .before .pre .0 .ready .wide, omega (arith, standing-in (c .before .before .before .before .before .pre .0), c .before .before .before .before .before .pre .0 .ready .sized .small))
 
 same-length-2 : tie.Need-same-length-2
 same-length-2 c = search needs
 
-returns-3 : tie.Need-returns-3
-returns-3 c = covers (row-ends (c .before .before .before .before .before .before .before .before .pre .0) (based-here (c .before .before .before .before .before .before .before .before .pre .0)) (sym (c .before .starts-row .ensures) ∙ c .if3 .taken)) (c .before .before .before .before .before .before .before .before .pre .1)
+returns-2 : tie.Need-returns-2
+returns-2 c = covers (row-ends (c .before .before .before .before .before .before .before .pre .0) (based-here (c .before .before .before .before .before .before .before .pre .0)) (sym (c .before .starts-row .ensures) ∙ c .if2 .taken)) (c .before .before .before .before .before .before .before .pre .1)
 
-shared-slice-read-if4 : tie.Need-shared-slice-read-if4
-shared-slice-read-if4 c = on-right (c .before) .within
+shared-slice-read-if3 : tie.Need-shared-slice-read-if3
+shared-slice-read-if3 c = on-right (c .before) .within
 
-cast-if4 : tie.Need-cast-if4
-cast-if4 c = omega (arith, c .shared-slice-known2 .given (c .before .before .before .before .before .before .before .before .before .args .p + 1))
+cast-if3 : tie.Need-cast-if3
+cast-if3 c = omega (arith, c .shared-slice-known2 .given (c .before .before .before .before .before .before .before .before .args .p + 1))
 
 mul-head : tie.Need-mul-head
 mul-head c = search needs
@@ -55,19 +49,19 @@ element-copy-out-head : tie.Need-element-copy-out-head
 element-copy-out-head c = search needs
 
 replace-requires : tie.Need-replace-requires
-replace-requires c κs = replaceable (on-right (c .before .before .before .before .before)) (c .before .before .before .before .before .before .before .before .before .before .before .before .before .pre .1) (is-right (c .before .before .before .before .before .before .before .before .before .before .before .before .before .args .grid) (c .before .before .before .before .before .before .before .before .before .before .before .before .before .args .p)) (sym (c .before .before .before .before .before .before .before .before .met .ensures) ∙ c .before .before .before .before .before .before .before .if2 .left) (c .before .before .before .if4 .taken)
+replace-requires c κs = replaceable (on-right (c .before .before .before .before .before)) (c .before .before .before .before .before .before .before .before .before .before .before .before .pre .1) (is-right (c .before .before .before .before .before .before .before .before .before .before .before .before .args .grid) (c .before .before .before .before .before .before .before .before .before .before .before .before .args .p)) (sym (c .before .before .before .before .before .before .before .before .met .ensures) ∙ c .before .before .before .before .before .before .before .if1 .left) (c .before .before .before .if3 .taken)
 
 same-length-3 : tie.Need-same-length-3
 same-length-3 c = search needs
 
-returns-4 : tie.Need-returns-4
-returns-4 c =
+returns-3 : tie.Need-returns-3
+returns-3 c =
     follows
     (on-right (c .before .before .before .before .before .before .before .before))
-    (c .before .before .before .before .before .before .before .before .before .before .before .before .before .before .before .before .pre .1)
-    (is-right (c .before .before .before .before .before .before .before .before .before .before .before .before .before .before .before .before .args .grid) (c .before .before .before .before .before .before .before .before .before .before .before .before .before .before .before .before .args .p))
-    (sym (c .before .before .before .before .before .before .before .before .before .before .before .met .ensures) ∙ c .before .before .before .before .before .before .before .before .before .before .if2 .left)
-    (c .before .before .before .before .before .before .if4 .taken)
+    (c .before .before .before .before .before .before .before .before .before .before .before .before .before .before .before .pre .1)
+    (is-right (c .before .before .before .before .before .before .before .before .before .before .before .before .before .before .before .args .grid) (c .before .before .before .before .before .before .before .before .before .before .before .before .before .before .before .args .p))
+    (sym (c .before .before .before .before .before .before .before .before .before .before .before .met .ensures) ∙ c .before .before .before .before .before .before .before .before .before .before .if1 .left)
+    (c .before .before .before .before .before .before .if3 .taken)
     (c .before .before .replace .kept .1 .1 .1 .1 .0)
     (c .before .before .replace .ensures)
 
@@ -77,37 +71,35 @@ visit-requires c κs = on-right (c .before .before .before .before .before)
 same-length-4 : tie.Need-same-length-4
 same-length-4 c = search needs
 
-returns-5 : tie.Need-returns-5
-returns-5 c = climbs (c .before .before .before .visit .ensures) (c .if5 .taken) (λ x e. sym (eqb-true _ x e))
+returns-4 : tie.Need-returns-4
+returns-4 c = climbs (c .before .before .before .visit .ensures) (c .if4 .taken) (λ x e. sym (eqb-true _ x e))
 
 same-length-5 : tie.Need-same-length-5
 same-length-5 c = search needs
 
-returns-6 : tie.Need-returns-6
-returns-6 c = covers (on-side (c .before .before .before .visit .ensures .stayed (c .if5 .left)) (is-right (c .before .before .before .before .before .before .before .before .before .before .before .before .before .before .before .before .before .args .grid) (c .before .before .before .before .before .before .before .before .before .before .before .before .before .before .before .before .before .args .p))) (c .before .before .before .before .before .before .before .before .before .before .before .before .before .before .before .before .before .pre .1)
+returns-5 : tie.Need-returns-5
+returns-5 c = covers (on-side (c .before .before .before .visit .ensures .stayed (c .if4 .left)) (is-right (c .before .before .before .before .before .before .before .before .before .before .before .before .before .before .before .before .args .grid) (c .before .before .before .before .before .before .before .before .before .before .before .before .before .before .before .before .args .p))) (c .before .before .before .before .before .before .before .before .before .before .before .before .before .before .before .before .pre .1)
 
 pub visit-last-spec : {M : Type 1} → statement M
 visit-last-spec =
     tie.close
     (tie.spec
-    sub-if1
-    returns
     add-q
     met-requires
     same-length
-    returns-2
+    returns
     starts-row-requires
     same-length-2
-    returns-3
-    shared-slice-read-if4
-    cast-if4
+    returns-2
+    shared-slice-read-if3
+    cast-if3
     mul-head
     element-copy-out-head
     replace-requires
     same-length-3
-    returns-4
+    returns-3
     visit-requires
     same-length-4
-    returns-5
+    returns-4
     same-length-5
-    returns-6)
+    returns-5)

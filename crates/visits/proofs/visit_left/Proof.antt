@@ -14,7 +14,7 @@ sub-met : tie.Need-sub-met
 sub-met c = left-fits (c .before .before .before .pre .0) (c .before .before .before .pre .1) (c .if1 .left)
 
 met-requires : tie.Need-met-requires
-met-requires c κs = (c .before .before .before .before .pre .0 .ready .sized, omega (arith, c .before .before .before .before .pre .1 .within))
+met-requires c κs = (c .before .before .before .before .pre .0 .ready .sized, (omega (arith, c .before .before .before .before .pre .1 .within), omega (arith, c .before .before .before .before .pre .1 .within)))
 
 same-length : tie.Need-same-length
 same-length c = search needs

@@ -2,65 +2,57 @@
 use mathlib.Core.Path.{sym, _∙_}
 use native.Mathlib.Omega.{arith}
 use Rattle.visits.proofs.Visits.{no-visit, met-already, on-side-to}
-use Rattle.visits.proofs.Beside.{none-right, row-ends, visit-right, one-right, is-right}
+use Rattle.visits.proofs.Beside.{row-ends, visit-right, one-right, is-right}
 use borrow.Author.Needs.{needs}
 use Rattle.visits.proofs.visit_right.Statement.{statement}
 use Rattle.visits.proofs.visit_right.Tie as tie
 
-sub-if1 : tie.Need-sub-if1
-sub-if1 c = omega (arith, c .before .before .pre .1 .within)
-
-returns : tie.Need-returns
-returns c = no-visit (none-right (c .before .before .before .pre .0) (c .before .before .before .pre .1) (c .if1 .taken))
-
 add-q : tie.Need-add-q
-add-q c = omega (arith, c .before .before .before .pre .1 .within, c .before .before .before .pre .0 .ready .sized .small)
+add-q c = omega (arith, c .before .before .pre .1 .within, c .before .before .pre .0 .ready .sized .small)
 
 met-requires : tie.Need-met-requires
-met-requires c κs = (c .before .before .before .before .pre .0 .ready .sized, omega (arith, c .before .if1 .left))
+met-requires c κs = (c .before .before .before .pre .0 .ready .sized, (omega (arith, c .before .before .before .pre .1 .within), omega (arith, c .before .before .before .pre .1 .within)))
 
 same-length : tie.Need-same-length
 same-length c = search needs
 
-returns-2 : tie.Need-returns-2
-returns-2 c = no-visit (met-already (c .before .before .before .before .before .before .pre .0) (is-right (c .before .before .before .before .before .before .args .grid) (c .before .before .before .before .before .before .args .base)) (sym (c .before .met .ensures) ∙ c .if2 .taken))
+returns : tie.Need-returns
+returns c = no-visit (met-already (c .before .before .before .before .before .pre .0) (is-right (c .before .before .before .before .before .args .grid) (c .before .before .before .before .before .args .base)) (sym (c .before .met .ensures) ∙ c .if1 .taken))
 
 starts-row-requires : tie.Need-starts-row-requires
-starts-row-requires c κs = (c .before .before .before .before .before .before .pre .0 .ready .wide, omega (arith, c .before .before .before .before .before .before .pre .1 .within, c .before .before .before .before .before .before .pre .0 .ready .sized .small))
+starts-row-requires c κs = (c .before .before .before .before .before .pre .0 .ready .wide, omega (arith, c .before .before .before .before .before .pre .1 .within, c .before .before .before .before .before .pre .0 .ready .sized .small))
 
 same-length-2 : tie.Need-same-length-2
 same-length-2 c = search needs
 
-returns-3 : tie.Need-returns-3
-returns-3 c = no-visit (row-ends (c .before .before .before .before .before .before .before .before .pre .0) (c .before .before .before .before .before .before .before .before .pre .1) (sym (c .before .starts-row .ensures) ∙ c .if3 .taken))
+returns-2 : tie.Need-returns-2
+returns-2 c = no-visit (row-ends (c .before .before .before .before .before .before .before .pre .0) (c .before .before .before .before .before .before .before .pre .1) (sym (c .before .starts-row .ensures) ∙ c .if2 .taken))
 
 visit-requires : tie.Need-visit-requires
-visit-requires c κs = visit-right (c .before .before .before .before .before .before .before .before .before .before .before .pre .0) (c .before .before .before .before .before .before .before .before .before .before .before .pre .1) (c .before .before .before .before .before .before .before .before .if1 .left) (sym (c .before .before .before .before .starts-row .ensures) ∙ c .before .before .before .if3 .left)
+visit-requires c κs = visit-right (c .before .before .before .before .before .before .before .before .before .before .pre .0) (c .before .before .before .before .before .before .before .before .before .before .pre .1) (sym (c .before .before .before .before .starts-row .ensures) ∙ c .before .before .before .if2 .left)
 
 same-length-3 : tie.Need-same-length-3
 same-length-3 c = search needs
 
-returns-4 : tie.Need-returns-4
-returns-4 c =
-    let at = (c .before .before .before .before .before .before .before .before .before .before .before .before .before .before) in
+returns-3 : tie.Need-returns-3
+returns-3 c =
+    let at = (c .before .before .before .before .before .before .before .before .before .before .before .before .before) in
     on-side-to
     (c .before .before .visit .ensures)
     (is-right (at .args .grid) (at .args .base))
-    (one-right (at .pre .0) (at .pre .1) (c .before .before .before .before .before .before .before .before .before .before .before .if1 .left) (sym (c .before .before .before .before .before .before .before .starts-row .ensures) ∙ c .before .before .before .before .before .before .if3 .left))
+    (one-right (at .pre .0) (at .pre .1) (sym (c .before .before .before .before .before .before .before .starts-row .ensures) ∙ c .before .before .before .before .before .before .if2 .left))
 
 pub visit-right-spec : {M : Type 1} → statement M
 visit-right-spec =
     tie.close
     (tie.spec
-    sub-if1
-    returns
     add-q
     met-requires
     same-length
-    returns-2
+    returns
     starts-row-requires
     same-length-2
-    returns-3
+    returns-2
     visit-requires
     same-length-3
-    returns-4)
+    returns-3)
