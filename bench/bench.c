@@ -138,7 +138,7 @@ static int run_table(uint32_t attribute, uint32_t neighbours, int runs, result_t
 }
 
 int main(int count, char **words) {
-    uint32_t attribute = AREA, named = count > 3 ? (uint32_t)atoi(words[3]) : 0;
+    uint32_t attribute = AREA, named = count > 3 && !words[3][1] ? (uint32_t)atoi(words[3]) : 0;
     int runs = count > 2 ? atoi(words[2]) : 7, differing = 0;
     if (count > 3 && named != 4 && named != 8) {
         fprintf(stderr, "bench: '%s' is neither 4 nor 8\n", words[3]);

@@ -38,46 +38,61 @@ static inline void push(flood_t *f, uint32_t q, int l, uint32_t k) {
     f->order[f->tails[l]++] = q;
 }
 
-/*
- * Queues the neighbour q of p if it was not met. The answer is the pixel at which the flood goes on: q where it is queued and brighter, else p.
- * No node is open at a brighter level.
- */
-static inline uint32_t visit(flood_t *f, uint32_t p, uint32_t q, int level) {
-    if (f->numbers[q] != f->n)
-        return p;
+/* Whether q is met; of n, where no pixel is, the answer does not matter. */
+static inline int met(const flood_t *f, uint32_t q) { return f->numbers[q] < f->n; }
+
+/* Queues a neighbour that was not met. The answer is the level at which the flood goes on. No node is open at a brighter level. */
+static inline int visit(flood_t *f, uint32_t q, int level) {
+    if (met(f, q))
+        return level;
     int l = f->greys[q];
     if (l > level) {
         push(f, q, l, next_number(f, l));
-        return q;
+        return l;
     }
     push(f, q, l, f->opened[l] == f->n ? next_number(f, l) : f->opened[l]);
+    return level;
+}
+
+/* The pixels beside the base. Whether a row starts there is asked only where they are not met. */
+static inline int visit_left(flood_t *f, uint32_t base, int level) {
+    return base == 0 || met(f, base - 1) || base % f->width == 0 ? level : visit(f, base - 1, level);
+}
+
+static inline int visit_right(flood_t *f, uint32_t base, int level) {
+    return met(f, base + 1) || (base + 1) % f->width == 0 ? level : visit(f, base + 1, level);
+}
+
+/* The neighbours that share only a corner with p, above and below, until one moves the flood. */
+static inline uint32_t visit_corners(flood_t *f, uint32_t p, int level) {
+    if (p >= f->width) {
+        uint32_t base = p - f->width;
+        if (visit_left(f, base, level) != level)
+            return base - 1;
+        if (visit_right(f, base, level) != level)
+            return base + 1;
+    }
+    if (f->n - p > f->width) {
+        uint32_t base = p + f->width;
+        if (visit_left(f, base, level) != level)
+            return base - 1;
+        if (visit_right(f, base, level) != level)
+            return base + 1;
+    }
     return p;
 }
 
-/* The neighbours that share only a corner with p, from the row above to the row below and from left to right, until one moves the flood. */
-static inline uint32_t visit_corners(flood_t *f, uint32_t p, uint32_t column, int level) {
-    uint32_t up = p - f->width, down = p + f->width;
-    int has_up = p >= f->width, has_down = f->n - p > f->width, has_left = column > 0, has_right = column + 1 < f->width;
-    if (has_up && has_left && visit(f, p, up - 1, level) != p)
-        return up - 1;
-    if (has_up && has_right && visit(f, p, up + 1, level) != p)
-        return up + 1;
-    if (has_down && has_left && visit(f, p, down - 1, level) != p)
-        return down - 1;
-    if (has_down && has_right && visit(f, p, down + 1, level) != p)
-        return down + 1;
-    return p;
-}
-
-/* The neighbour q on the right, the last one: one of the same level that was not met takes the place of p, which is done. */
-static inline uint32_t visit_right(flood_t *f, uint32_t p, int level) {
+/* The neighbour on the right, the last one: one of the same level that was not met takes the place of p, which is done. */
+static inline uint32_t visit_last(flood_t *f, uint32_t p, int level) {
     uint32_t q = p + 1;
-    if (f->numbers[q] == f->n && f->greys[q] == level) {
+    if (met(f, q) || q % f->width == 0)
+        return p;
+    if (f->greys[q] == level) {
         f->numbers[q] = f->opened[level];
         f->order[f->heads[level]] = q;
         return q;
     }
-    return visit(f, p, q, level);
+    return visit(f, q, level) != level ? q : p;
 }
 
 /*
@@ -85,19 +100,18 @@ static inline uint32_t visit_right(flood_t *f, uint32_t p, int level) {
  * the flood goes on, p where it stays.
  */
 static inline uint32_t visit_around(flood_t *f, uint32_t p, int level) {
-    uint32_t column = p % f->width;
-    if (p >= f->width && visit(f, p, p - f->width, level) != p)
+    if (p >= f->width && visit(f, p - f->width, level) != level)
         return p - f->width;
-    if (column > 0 && visit(f, p, p - 1, level) != p)
+    if (visit_left(f, p, level) != level)
         return p - 1;
-    if (f->n - p > f->width && visit(f, p, p + f->width, level) != p)
+    if (f->n - p > f->width && visit(f, p + f->width, level) != level)
         return p + f->width;
     if (f->neighbours == 8) {
-        uint32_t next = visit_corners(f, p, column, level);
-        if (next != p)
-            return next;
+        uint32_t corner = visit_corners(f, p, level);
+        if (corner != p)
+            return corner;
     }
-    return column + 1 < f->width ? visit_right(f, p, level) : p;
+    return visit_last(f, p, level);
 }
 
 /* The brightest open level below, 256 if there is none. */

@@ -86,7 +86,7 @@ unfoldable pub chain-indices : ℕ → List ℕ → List Call → List ℕ
 chain-indices n original calls = table n (λ (p : ℕ). largest-place (chain-falls original calls p))
 
 -- "Accepted calls name the chain's width, height and attribute; refused ones may name any numbers and be lent any workspace and
--- output."
+-- output." The neighbourhood is "the same in all accepted calls of a chain": it stands in the grid.
 unfoldable pub Named : Grid → ℕ → List ℕ → List Call → Type 0
 Named grid a given [] = Unit {0}
 Named grid a given (call ∷ rest) =
@@ -94,7 +94,7 @@ Named grid a given (call ∷ rest) =
     × Named grid a (handed-on given call) rest
 
 -- "A chain has an original (any picture within the bounds above), its width and height, one attribute, and a list of opening calls,
--- which may be empty." That greys are bytes is not needed.
+-- which may be empty." The grid names the neighbourhood too. That greys are bytes is not needed.
 pub record Chain (grid : Grid) (a : ℕ) (original : List ℕ) (calls : List Call) : Type 0 where
   pub sides : sides-fit (grid .width) (grid .height) ≡ true
   pub size : length original ≡ pixels grid
@@ -120,7 +120,8 @@ No-node-between grid a picture s t =
     → ¬ ((min s t ≤ node-attribute grid a picture p) × (node-attribute grid a picture p < max s t))
 
 -- The claim about a chain, against every single opening and every map call. "The single opening is an accepted call on the original
--- with the same width, height and attribute."
+-- with the same width, height and attribute", and the neighbourhood is the same "in the single opening and the map call that it is compared
+-- with". "Levelings and chains are judged by the neighbourhood named."
 pub record Claim (grid : Grid) (a : ℕ) (original : List ℕ) (calls : List Call) : Type 0 where
   -- "A refused call answers the number due and hands on the picture it was given": due is the number of the cause that judging finds,
   -- the first that applies
