@@ -9,11 +9,18 @@ use borrow.Author.Needs.{needs}
 use Rattle.visits.proofs.visit.Statement.{statement}
 use Rattle.visits.proofs.visit.Tie as tie
 
-new : (c : tie.Else1) → number-at (c .before .before .before .before .before .args .ws .now) (c .before .before .before .before .before .args .q) ≡ length (c .before .before .before .before .before .args .picture .now)
-new c = unnumbered (c .before .before .before .before .before .pre) (sym (c .before .met .ensures) ∙ c .if1 .left)
+new :
+    (c : tie.Else1)
+    → let at = c .before .before .before .before .before .args in
+    number-at (at .ws .now) (at .q) ≡ length (at .picture .now)
+new c =
+    let at = c .before .before .before .before .before in
+    unnumbered (at .pre) (sym (c .before .met .ensures) ∙ c .if1 .left)
 
 met-requires : tie.Need-met-requires
-met-requires c κs = (c .before .before .before .pre .standing .ready .sized, (omega (arith, c .before .before .before .pre .within), omega (arith, c .before .before .before .pre .within)))
+met-requires c κs =
+    let at = c .before .before .before in
+    (at .pre .standing .ready .sized, (omega (arith, at .pre .within), omega (arith, at .pre .within)))
 
 same-length : tie.Need-same-length
 same-length c = search needs
@@ -28,22 +35,39 @@ cast-l : tie.Need-cast-l
 cast-l c = omega (arith, c .shared-slice-known2 .given (c .before .before .before .before .before .before .args .q))
 
 push-first-requires : tie.Need-push-first-requires
-push-first-requires c κs = (fits (c .before .before .before .before .before .before .before .before .before .before .pre) (new (c .before .before .before .before .before)), not-open (c .before .before .before .before .before .before .before .before .before .before .pre) (c .before .before .before .if2 .taken))
+push-first-requires c κs =
+    let taken2 = c .before .before .before in
+    let left1 = taken2 .before .before in
+    let at = left1 .before .before .before .before .before in
+    (fits (at .pre) (new left1), not-open (at .pre) (taken2 .if2 .taken))
 
 same-length-2 : tie.Need-same-length-2
 same-length-2 c = search needs
 
 returns-2 : tie.Need-returns-2
-returns-2 c = queued-to (c .before .before .before .before .before .before .before .before .before .before .before .before .before .pre) (new (c .before .before .before .before .before .before .before .before)) (c .before .before .push-first .kept .1 .1 .1 .0) (c .before .before .push-first .ensures) (inl (c .before .before .before .before .before .before .if2 .taken, refl))
+returns-2 c =
+    let done-push-first = c .before .before in
+    let taken2 = done-push-first .before .before .before .before in
+    let left1 = taken2 .before .before in
+    let at = left1 .before .before .before .before .before in
+    queued-to (at .pre) (new left1) (done-push-first .push-first .kept .1 .1 .1 .0) (done-push-first .push-first .ensures) (inl (taken2 .if2 .taken, refl))
 
 push-requires : tie.Need-push-requires
-push-requires c κs = fits (c .before .before .before .before .before .before .before .before .before .before .pre) (new (c .before .before .before .before .before))
+push-requires c κs =
+    let left1 = c .before .before .before .before .before in
+    let at = left1 .before .before .before .before .before in
+    fits (at .pre) (new left1)
 
 same-length-3 : tie.Need-same-length-3
 same-length-3 c = search needs
 
 returns-3 : tie.Need-returns-3
-returns-3 c = queued-to (c .before .before .before .before .before .before .before .before .before .before .before .before .before .pre) (new (c .before .before .before .before .before .before .before .before)) (c .before .before .push .kept .1 .1 .1 .0) (c .before .before .push .ensures) (inr (c .before .before .before .before .before .before .if2 .left, refl))
+returns-3 c =
+    let done-push = c .before .before in
+    let left2 = done-push .before .before .before .before in
+    let left1 = left2 .before .before in
+    let at = left1 .before .before .before .before .before in
+    queued-to (at .pre) (new left1) (done-push .push .kept .1 .1 .1 .0) (done-push .push .ensures) (inr (left2 .if2 .left, refl))
 
 pub visit-spec : {M : Type 1} → statement M
 visit-spec =

@@ -19,13 +19,19 @@ add-visit : tie.Need-add-visit
 add-visit c = search needs
 
 visit-requires : tie.Need-visit-requires
-visit-requires c κs = visit-below (c .before .before .before .before .before .before .before .pre) (c .before .before .before .if1 .left)
+visit-requires c κs =
+    let left1 = c .before .before .before in
+    let at = left1 .before .before .before .before in
+    visit-below (at .pre) (left1 .if1 .left)
 
 same-length : tie.Need-same-length
 same-length c = search needs
 
 returns-2 : tie.Need-returns-2
-returns-2 c = on-side-to (c .before .before .visit .ensures) (is-below (c .before .before .before .before .before .before .before .before .before .before .args .grid) (c .before .before .before .before .before .before .before .before .before .before .args .p)) (one-below (c .before .before .before .before .before .before .before .before .before .before .args .grid) (c .before .before .before .before .before .before .before .before .before .before .args .p))
+returns-2 c =
+    let done-visit = c .before .before in
+    let at = done-visit .before .before .before .before .before .before .before .before in
+    on-side-to (done-visit .visit .ensures) (is-below (at .args .grid) (at .args .p)) (one-below (at .args .grid) (at .args .p))
 
 pub visit-down-spec : {M : Type 1} → statement M
 visit-down-spec =
