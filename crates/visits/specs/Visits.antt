@@ -124,7 +124,7 @@ pub record Visited (grid : Grid) (picture : List ℕ) (s s' : Lists) (p q : ℕ)
   pub met : q ≡ p → (x : ℕ) → x < length picture → side x ≡ true → number-at (s' .words) x < length picture
 
 -- the same by the level r that is answered: where it is l, the flood stays at p; where it is not, it has moved to the pixel at the head of
--- level r, which is on the side named, and no side is all met
+-- level r, which is on the side named, and of no side is it said that all are met
 pub record VisitedTo (grid : Grid) (picture : List ℕ) (s s' : Lists) (l r p : ℕ) (side : Positions) : Type 0 where
   pub stayed : r ≡ l → Visited grid picture s s' p p side
   pub there : (r ≡ l → ⊥) → side (head-pixel (length picture) s' r) ≡ true
