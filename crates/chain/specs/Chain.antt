@@ -94,7 +94,8 @@ Named grid a given (call ∷ rest) =
     × Named grid a (handed-on given call) rest
 
 -- "A chain has an original (any picture within the bounds above), its width and height, one attribute, and a list of opening calls,
--- which may be empty." The grid names the neighbourhood too. That greys are bytes is not needed.
+-- which may be empty." The grid names the neighbourhood too. That greys are bytes, and that its number is 4 or 8, is
+-- not needed.
 pub record Chain (grid : Grid) (a : ℕ) (original : List ℕ) (calls : List Call) : Type 0 where
   pub sides : sides-fit (grid .width) (grid .height) ≡ true
   pub size : length original ≡ pixels grid
@@ -143,7 +144,7 @@ pub record Claim (grid : Grid) (a : ℕ) (original : List ℕ) (calls : List Cal
   -- picture add up to the grey that it had
   pub falls : (p : ℕ) → p < pixels grid → total (chain-falls original calls p) + grey (chain-picture original calls) p ≡ grey original p
   -- "If the accepted thresholds, in order, are a step list, [..] both [maps] equal, at every pixel, what an accepted map call on the
-  -- original writes for that list and the chain's width, height and attribute."
+  -- original writes for that list and the chain's width, height and attribute." The map call names the chain's grid, so its neighbourhood too.
   pub maps : (steps : List ℕ) → accepted-thresholds original calls ≡ steps → steps-good steps ≡ true
       → (workspace residue index : List ℕ) → map-verdict (mapping-of original grid a steps workspace residue index) ≡ Accepted
       → (chain-residues (pixels grid) original calls ≡ map-residue (mapping-of original grid a steps workspace residue index))

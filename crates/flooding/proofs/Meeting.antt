@@ -1,5 +1,5 @@
 -- A pixel that is met: what the flood keeps true holds after it is put at the end of its level's run. The graph's part is one fact,
--- that the picture's edges join the pixel to the root of every open level that both reach.
+-- that the picture's neighbours join the pixel to the root of every open level that both reach.
 use Prim.Native.Nat.{ℕ, suc, _+_, _≤_, _<_}
 use mathlib.Core.Bool.{Bool, true, false, _&&_}
 use mathlib.Core.Logic.{_⊎_, inl, inr, ⊎-elim}
@@ -21,7 +21,7 @@ false-and a b e = rw e refl
 pub tail-le : {n : ℕ} {adj : Adjacency} {g : ℕ → ℕ} {s : State} → Sound n adj g s → (k : ℕ) → k < 256 → s .tail k ≤ n
 tail-le {n} {g = g} S k h = omega (arith, S .room k h, count-le n (λ (q : ℕ). ltb (g q) (suc k)))
 
--- the picture's edges join q to every open root that it and q reach
+-- the picture's neighbours join q to every open root that it and q reach
 abbrev pub Reaches : ℕ → Adjacency → (ℕ → ℕ) → State → ℕ → ℕ → Type 0
 Reaches n adj g s l q =
     (h : ℕ) (G : Adjacency) → Contains n adj g h G → h ≤ l → (k : ℕ) → k < 256 → s .root k < n → h ≤ k → Joined G q (s .root k)

@@ -31,7 +31,7 @@ pub record State : Type 0 where
 abbrev pub unmet-count : ℕ → (ℕ → ℕ) → (ℕ → ℕ) → ℕ → ℕ
 unmet-count n g par l = count n (λ (q : ℕ). eqb (par q) n && eqb (g q) l)
 
--- G joins the ends of every edge of the picture's graph at level h
+-- G joins all neighbours of the picture at level h
 abbrev pub Contains : ℕ → Adjacency → (ℕ → ℕ) → ℕ → Adjacency → Type 0
 Contains n adj g h G = (p q : ℕ) → p < n → q < n → adj p q ≡ true → h ≤ g p → h ≤ g q → Joined G p q
 
@@ -110,7 +110,7 @@ pub record Closed (n l m : ℕ) (s s' : State) : Type 0 where
   pub head : (k : ℕ) → s' .head k ≡ s .head k
   pub tail : (k : ℕ) → s' .tail k ≡ s .tail k
 
--- what the flood leaves: parents that are node roots and join exactly what the picture's edges join, at every level
+-- what the flood leaves: parents that are node roots and join exactly what the picture's neighbours join, at every level
 pub record Flooded (n : ℕ) (adj : Adjacency) (g par : ℕ → ℕ) : Type 0 where
   pub within : (q : ℕ) → q < n → par q < n
   pub rooted : (q : ℕ) → q < n → Rooted n g par q

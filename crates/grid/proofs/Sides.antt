@@ -53,7 +53,7 @@ module _ (w p : ℕ) where
   below-is q e = eqb-true q (p + w) e
 
   pub right-is : (q : ℕ) → next-in-row w p q ≡ true → q ≡ p + 1
-  right-is q e = eqb-true q (p + 1) (and-left (eqb q (p + 1)) (not (eqb (q % w) 0)) e)
+  right-is q e = eqb-true q (p + 1) (and-left (eqb q (p + 1)) _ e)
 
   pub right-inside : (q : ℕ) → next-in-row w p q ≡ true → q % w ≡ 0 → ⊥
   right-inside q e = eqb-false (q % w) 0 (not-true _ (and-right (eqb q (p + 1)) (not (eqb (q % w) 0)) e))

@@ -19,7 +19,8 @@ next-in-column w p q = eqb q (p + w)
 abbrev pub next-on-corner : ℕ → Adjacency
 next-on-corner w p q = next-in-row w q (p + w) || next-in-row w (p + w) q
 
--- q comes after p, where c neighbours are named: in its row or below it, and with 8 on a corner too
+-- q comes after p, where c neighbours are named: in its row or below it, and with 8 on a corner too. Any number but 8 gives the four; no
+-- accepted call names another than 4.
 abbrev pub next-of : ℕ → ℕ → Adjacency
 next-of c w p q = (next-in-row w p q || next-in-column w p q) || (eqb c 8 && next-on-corner w p q)
 

@@ -1,4 +1,4 @@
-// The grid of a picture, by value: what a call names of its pixels' places. Definitions of neighbours and attributes, and their laws, are over it.
+// The grid of a picture, by value: what a call names of its pixels' places and neighbours. Definitions of neighbours and attributes, and their laws, are over it.
 ghost use mathlib.Core.Path.{_≡_};
 ghost use Rattle.grid.specs.Pixels.{pixels};
 

@@ -1,4 +1,5 @@
--- The cases for proof of the scope's table of small pictures, as one statement over the definitions that the calls' contracts state.
+-- The cases for proof of the scope's table of small pictures, which name 4 neighbours, and the one that request E2 adds, as one statement over the
+-- definitions that the calls' contracts state.
 use Prim.Native.Nat.{ℕ}
 use mathlib.Core.List.{List, [], _∷_}
 use mathlib.Core.Path.{_≡_}

@@ -1,5 +1,5 @@
 -- Parent words of any choice that stand for the tree of a picture: each word is an own pixel of a node, the one that the words
--- of that node's other own pixels lead to, and at every level the words join what the picture's edges join.
+-- of that node's other own pixels lead to, and at every level the words join what the picture's neighbours join.
 use Prim.Native.Nat.{ℕ, zero, suc, _≤_, _<_}
 use mathlib.Core.Bool.{true, cond}
 use mathlib.Core.Logic.{_⊎_}
@@ -20,7 +20,7 @@ pub record Forest (n : ℕ) (adj : Adjacency) (g par : ℕ → ℕ) : Type 0 whe
   pub root : (q : ℕ) → q < n → Node-root g par (par q)
   -- a pixel and its parent lie in one component at the parent's grey
   pub sound : (q : ℕ) → q < n → member (component-at n adj g (g (par q)) q) (par q) ≡ true
-  -- labels that agree along the words at level h agree along the picture's edges at level h
+  -- labels that agree along the words at level h agree along the picture's neighbours at level h
   pub complete :
       (h : ℕ) (label : ℕ → ℕ) → ((q : ℕ) → q < n → h ≤ g (par q) → label q ≡ label (par q))
       → (p q : ℕ) → p < n → q < n → adj p q ≡ true → h ≤ g p → h ≤ g q → label p ≡ label q

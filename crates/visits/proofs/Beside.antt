@@ -1,4 +1,4 @@
--- The sides of the pixel p where the flood stands: where there is no pixel on a side, what a visit of the one there asks, and that it is the
+-- The sides and corners of the pixel p where the flood stands: where there is no pixel on a side, what a visit of the one there asks, and that it is the
 -- only one. No other laws of the flood look into what a neighbour is.
 use Prim.Native.Nat.{ℕ, _+_, _-_, _%_, _≤_, _<_}
 use mathlib.Core.Bool.{true, false, _||_}

@@ -9,7 +9,8 @@ ghost use Rattle.visits.specs.Visits.{held, at-entry, at-exit, Standing,
 ghost use Rattle.visits.specs.Visits.{corners-above, corners-below, corners, Based, Visited, VisitedTo, met-test, Met-but, VisitedAround};
 use grid::Grid;
 
-// Whether the pixel q is met, in a picture of n pixels. It may be asked of n too, where no pixel is.
+// Whether the pixel q is met, in a picture of n pixels. It may be asked of n too, where no pixel is: the word there is part 2's, and the answer
+// says nothing.
 fn met(n: usize, q: usize, ws: &[u32]) -> bool
     requires { ⌜ Sized n (now ws) ⌝ }
     requires { ⌜ 0 < n ⌝ }
@@ -20,7 +21,8 @@ fn met(n: usize, q: usize, ws: &[u32]) -> bool
 }
 
 // Visits q, a neighbour of p, the pixel at the head of the current level: it is put into its queue unless it is met. The answer is the level
-// at which the flood goes on, the brighter of the two. (Of two pixels the compiler could not tell that they differ.)
+// at which the flood goes on: q's where q was not met and is brighter, else the one given. (Of two pixels the compiler could not tell that they
+// differ.)
 fn visit(
     picture: &[u8],
     grid: Grid,
@@ -144,14 +146,14 @@ fn visit_right(
     requires { ⌜ Based grid (now picture) p base ⌝ }
     ensures { λ r. ⌜ VisitedTo grid (now (picture .entry)) (at-entry ws heads tails opened) (at-exit ws heads tails opened) level r p (right-of grid base) ⌝ }
 {
-    let q = base + 1;
-    if met(picture.len(), q, ws) {
+    let right = base + 1;
+    if met(picture.len(), right, ws) {
         return level;
     }
-    if starts_row(grid, q) {
+    if starts_row(grid, right) {
         return level;
     }
-    visit(picture, grid, q, p, level, ws, heads, tails, opened)
+    visit(picture, grid, right, p, level, ws, heads, tails, opened)
 }
 
 // The corners of p in the row above. The answer is the pixel at which the flood goes on, p where it stays.

@@ -7,8 +7,8 @@ use borrow.Author.Needs.{needs}
 use Rattle.visits.proofs.visit_right.Statement.{statement}
 use Rattle.visits.proofs.visit_right.Tie as tie
 
-add-q : tie.Need-add-q
-add-q c = omega (arith, c .before .before .pre .1 .within, c .before .before .pre .0 .ready .sized .small)
+add-right : tie.Need-add-right
+add-right c = omega (arith, c .before .before .pre .1 .within, c .before .before .pre .0 .ready .sized .small)
 
 met-requires : tie.Need-met-requires
 met-requires c κs =
@@ -62,7 +62,7 @@ pub visit-right-spec : {M : Type 1} → statement M
 visit-right-spec =
     tie.close
     (tie.spec
-    add-q
+    add-right
     met-requires
     same-length
     returns
