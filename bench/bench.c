@@ -12,9 +12,8 @@
 #include <stdio.h>
 #include <stdlib.h>
 #include <string.h>
-#include <time.h>
 
-enum { SIDE = 1024, PIXELS = SIDE * SIDE, CAMERA_SECONDS = 20 };
+enum { CAMERA_SECONDS = 20 };
 
 /* The most neighbours that the earlier library knows, 0 without one. */
 #ifndef BEFORE
@@ -27,23 +26,8 @@ static const char *const ways[] = {"library", "flooding in C", "union-find in C"
 static const char *const parts[PARTS] = {"build", "opening", "map"};
 static const char *const attributes[] = {"area", "height", "width"};
 
-uint32_t steps[STEPS];
-
 /* How many of the ways run: the earlier library where it knows the neighbours named. */
 static int ways_with(uint32_t neighbours) { return neighbours <= BEFORE ? WAYS : EARLIER; }
-
-static double milliseconds(void) {
-    struct timespec t;
-    clock_gettime(CLOCK_THREAD_CPUTIME_ID, &t);
-    return t.tv_sec * 1e3 + t.tv_nsec / 1e6;
-}
-
-static void *lend(size_t bytes) {
-    void *memory = malloc(bytes);
-    if (memory == NULL)
-        exit(2);
-    return memset(memory, 0xa5, bytes);
-}
 
 static uint64_t c_call(record_fn *record, map_fn *map, int part, const picture_t *p, uint32_t attribute, result_t *r) {
     if (part == BUILD)
@@ -122,17 +106,16 @@ static double run_picture(const char *name, uint32_t attribute, uint32_t neighbo
 
 /* All pictures with one number of neighbours. Answers on how many the ways differ. */
 static int run_table(uint32_t attribute, uint32_t neighbours, int runs, result_t results[WAYS]) {
-    const char *names[] = {"floc", "noise", "smooth", "ramp", "flat", "checkerboard"};
     int differing = 0;
     printf("%d pixels, %u neighbours, %s, opening at %d, map with %d steps; ms, least of %d\n", PIXELS, (unsigned)neighbours,
            attributes[attribute - 1], THRESHOLD, STEPS, runs);
     printf("%-13s %-8s %9s %9s %9s   %8s %8s", "picture", "call", "library", "flooding", "union", "to flood", "to union");
     puts(ways_with(neighbours) > EARLIER ? "   earlier  to that" : "");
-    for (int k = 0; k < 6; k++) {
-        double time = run_picture(names[k], attribute, neighbours, runs, results);
+    for (int k = 0; k < KINDS; k++) {
+        double time = run_picture(kinds[k], attribute, neighbours, runs, results);
         differing += time < 0;
         if (time > 0)
-            printf("%-13s map: %.1f pictures a second, %.0f cameras a core\n", names[k], 1e3 / time, CAMERA_SECONDS * 1e3 / time);
+            printf("%-13s map: %.1f pictures a second, %.0f cameras a core\n", kinds[k], 1e3 / time, CAMERA_SECONDS * 1e3 / time);
     }
     return differing;
 }
@@ -147,11 +130,10 @@ int main(int count, char **words) {
     for (uint32_t a = 0; count > 1 && a < 3; a++)
         if (!strcmp(words[1], attributes[a]))
             attribute = a + 1;
-    for (uint32_t i = 0; i < STEPS; i++)
-        steps[i] = 1 + i + i * i / 16;
     result_t results[WAYS];
+    steps_make();
     for (int way = 0; way < (BEFORE ? WAYS : EARLIER); way++)
-        results[way] = (result_t){lend(6 * PIXELS * 4), lend(PIXELS), lend(PIXELS), lend(PIXELS * 2), 0};
+        results[way] = lend();
     for (uint32_t neighbours = 4; neighbours <= 8; neighbours += 4)
         if (named == 0 || named == neighbours)
             differing += run_table(attribute, neighbours, runs < 1 ? 1 : runs, results);

@@ -8,9 +8,13 @@
 
 enum { AREA = 1, HEIGHT = 2, WIDTH = 3 };
 enum { BUILD, OPENING, MAP, PARTS };
-enum { STEPS = 256, THRESHOLD = 40 };
+enum { STEPS = 256, THRESHOLD = 40, SIDE = 1024, PIXELS = SIDE * SIDE, KINDS = 6 };
 
+/* What every call is given, once steps_make is called, and the kinds of pictures. */
 extern uint32_t steps[STEPS];
+extern const char *const kinds[KINDS];
+
+void steps_make(void);
 
 typedef struct {
     const char *name;
@@ -27,9 +31,16 @@ typedef struct {
     uint64_t nodes;
 } result_t;
 
+/* Memory for what a call leaves, touched. */
+result_t lend(void);
+
+/* The processor time so far. */
+double milliseconds(void);
+
 /* A call of the library, and of an earlier one where the benchmark is built with it. */
-uint64_t library_call(int part, const picture_t *picture, uint32_t attribute, result_t *result);
-uint64_t before_call(int part, const picture_t *picture, uint32_t attribute, result_t *result);
+typedef uint64_t call_fn(int part, const picture_t *picture, uint32_t attribute, result_t *result);
+
+call_fn library_call, before_call;
 
 /* Pictures of many kinds; the same for the same name and size. Their neighbours are left to be named. */
 int picture_make(picture_t *picture, const char *name, uint32_t width, uint32_t height);

@@ -41,11 +41,18 @@ static inline void push(flood_t *f, uint32_t q, int l, uint32_t k) {
 /* Whether q is met; of n, where no pixel is, the answer does not matter. */
 static inline int met(const flood_t *f, uint32_t q) { return f->numbers[q] < f->n; }
 
-/* Queues a neighbour that was not met. The answer is the level at which the flood goes on. No node is open at a brighter level. */
+/*
+ * Queues a neighbour that was not met. The answer is the level at which the flood goes on. A node is open at that level, and none at a
+ * brighter one.
+ */
 static inline int visit(flood_t *f, uint32_t q, int level) {
     if (met(f, q))
         return level;
     int l = f->greys[q];
+    if (l == level) {
+        push(f, q, l, f->opened[l]);
+        return level;
+    }
     if (l > level) {
         push(f, q, l, next_number(f, l));
         return l;

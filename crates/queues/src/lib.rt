@@ -91,6 +91,22 @@ pub fn push_first(
     append(n, q, l, k, ws, tails);
 }
 
+// The same where a node of level l is open: q gets its number.
+pub fn push_open(
+    n: usize,
+    q: usize,
+    l: usize,
+    ws: &mut [u32],
+    tails: &mut [usize; 256],
+    opened: &[usize; 262],
+)
+    requires { ⌜ Fitting n q l (now ws) (now tails) (now opened) ⌝ }
+    requires { ⌜ getD (now opened) l 0 < n ⌝ }
+    ensures { λ _. ⌜ Placing n q l (now (ws .entry)) (now (tails .entry)) (now (opened .entry)) (now (ws .exit)) (now (tails .exit)) (now (opened .entry)) ⌝ }
+{
+    append(n, q, l, opened[l], ws, tails);
+}
+
 // Puts q at the place t of the run of level l, at which a node is open, in place of the pixel that stands there, and notes the number of that
 // node.
 pub fn replace(n: usize, q: usize, l: usize, t: usize, ws: &mut [u32], opened: &[usize; 262])

@@ -1,7 +1,7 @@
 -- The sides and corners of the pixel p where the flood stands: where there is no pixel on a side, what a visit of the one there asks, and that it is the
 -- only one. No other laws of the flood look into what a neighbour is.
 use Prim.Native.Nat.{ℕ, _+_, _-_, _%_, _≤_, _<_}
-use mathlib.Core.Bool.{true, false, _||_}
+use mathlib.Core.Bool.{true, false}
 use mathlib.Core.List.{List}
 use mathlib.Core.Logic.{_⊎_, inl, inr}
 use mathlib.Core.Path.{_≡_, refl, sym, ap, _∙_}
@@ -11,7 +11,7 @@ use lib.Dec.{eqb}
 use lib.ListN.{length}
 use borrow.Author.Tests.{eqb-true, eqb-false, eq-eqb}
 use Rattle.sets.specs.Sets.{Positions}
-use Rattle.sets.proofs.Tests.{and-left, and-right, and-both, or-cases, or-left, or-right}
+use Rattle.sets.proofs.Tests.{and-left, and-both, or-cases, or-left, or-right}
 use Rattle.grid.specs.Neighbours.{adjacent}
 use Rattle.grid.specs.declared.Grid.{Grid}
 use Rattle.grid.proofs.Sides.{After, forth, back, side-of, below-is, right-is, right-inside, is-next-in-row, is-next-in-column, row-in, row-down}

@@ -81,6 +81,10 @@ module _ {grid : Grid} {picture : List ℕ} {s : Lists} {l p : ℕ} (S : Standin
   pub stands-at : StandsAt grid picture s p
   stands-at = rw standing-grey S
 
+  -- a node is open there
+  here-open : getD (s .opened) l 0 < length picture
+  here-open = let A = S .ready .at in open-number (S .ready .named) l (A .level) (A .open-here)
+
   pub visiting : (q : ℕ) → q < length picture → adjacent grid p q ≡ true → Visiting grid picture s l p q
   visiting q h e = record { standing = S; within = h; next = e }
 
@@ -248,6 +252,10 @@ module _ {grid : Grid} {picture : List ℕ} {s : Lists} where
         (λ o. absurd (omega (arith, no-root brighter, open-root (R .named) (grey picture q) (R .bytes q) o)))
         (λ ge. omega (arith, R .named .opens (grey picture q) (R .bytes q)))
 
+    -- one is open at the same level
+    pub is-open : grey picture q ≡ l → getD (s .opened) (grey picture q) 0 < length picture
+    is-open same = rw same (here-open (U .standing))
+
     module _ (new : number-at (s .words) q ≡ length picture) where
       no-parent : R .par q ≡ length picture
       no-parent = R .named .unmet q (U .within) new
@@ -382,9 +390,6 @@ module _ {grid : Grid} {picture : List ℕ} {s : Lists} {l p q : ℕ} {side : Po
     in-l : l < 256
     in-l = ready .at .level
 
-    here-open : getD (s .opened) l 0 < length picture
-    here-open = open-number (ready .named) l in-l (ready .at .open-here)
-
     pub replaceable : Replaceable (length picture) q l (getD (s .heads) l 0) (s .words) (s .opened)
     replaceable =
         record {
@@ -392,7 +397,7 @@ module _ {grid : Grid} {picture : List ℕ} {s : Lists} {l p q : ℕ} {side : Po
           within = in-q;
           place = head-in ready;
           nameable = nameable-for ready in-l in-q new;
-          open-here = here-open;
+          open-here = here-open S;
         }
 
     module _ {ws' : List ℕ} (same-length : length ws' ≡ length (s .words))

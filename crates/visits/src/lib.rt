@@ -42,6 +42,10 @@ fn visit(
         return level;
     }
     let l = picture[q] as usize;
+    if l == level {
+        queues::push_open(n, q, l, ws, tails, opened);
+        return level;
+    }
     if l > level {
         queues::push_first(n, q, l, ws, tails, opened);
         return l;

@@ -52,19 +52,20 @@ fn steps(random: &mut Random) -> Vec<u32> {
     steps
 }
 
-/// Each call under each neighbourhood, each time by another attribute.
+/// Under each neighbourhood build and opening by each attribute, and the map by one of them in turn.
 fn check(report: &mut Report, random: &mut Random, picture: &Picture, case: usize) {
     for (turn, neighbours) in NEIGHBOURHOODS.into_iter().enumerate() {
         let forest = Forest::of(picture, neighbours);
-        let call = |by: usize, steps: Vec<u32>| {
-            let attribute = 1 + (case + turn + by) as u32 % 3;
-            Call::good(picture, attribute, neighbours, steps)
-        };
-        check_build(report, random, &call(0, vec![1]), &forest);
-        let single = random.pick(&[2, 5, 12, 60, 900, 1024, 1_048_576, 1_048_577]);
-        check_open(report, random, &call(1, vec![single]), &forest);
-        let steps = steps(random);
-        check_map(report, random, &call(2, steps), &forest);
+        for attribute in 1..=3 {
+            let call = Call::good(picture, attribute, neighbours, steps(random));
+            check_build(report, random, &call, &forest);
+            if attribute as usize == 1 + (case + turn) % 3 {
+                check_map(report, random, &call, &forest);
+            }
+            let single = random.pick(&[2, 5, 12, 60, 900, 1024, 1_048_576, 1_048_577]);
+            let call = Call::good(picture, attribute, neighbours, vec![single]);
+            check_open(report, random, &call, &forest);
+        }
     }
 }
 

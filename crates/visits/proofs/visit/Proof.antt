@@ -4,7 +4,7 @@ use mathlib.Core.Path.{_≡_, refl, sym, _∙_}
 use native.Mathlib.Omega.{arith}
 use lib.ListN.{length}
 use Rattle.levels.specs.Workspace.{number-at}
-use Rattle.visits.proofs.Visits.{already, unnumbered, not-open, fits, queued-to}
+use Rattle.visits.proofs.Visits.{already, unnumbered, is-open, not-open, fits, queued-to}
 use borrow.Author.Needs.{needs}
 use Rattle.visits.proofs.visit.Statement.{statement}
 use Rattle.visits.proofs.visit.Tie as tie
@@ -34,40 +34,68 @@ shared-slice-read-l c = search needs
 cast-l : tie.Need-cast-l
 cast-l c = omega (arith, c .shared-slice-known2 .given (c .before .before .before .before .before .before .args .q))
 
-push-first-requires : tie.Need-push-first-requires
-push-first-requires c κs =
+push-open-requires : tie.Need-push-open-requires
+push-open-requires c κs =
     let taken2 = c .before .before .before in
     let left1 = taken2 .before .before in
     let at = left1 .before .before .before .before .before in
-    (fits (at .pre) (new left1), not-open (at .pre) (taken2 .if2 .taken))
+    (fits (at .pre) (new left1), is-open (at .pre) (taken2 .if2 .taken))
 
 same-length-2 : tie.Need-same-length-2
 same-length-2 c = search needs
 
 returns-2 : tie.Need-returns-2
 returns-2 c =
-    let done-push-first = c .before .before in
-    let taken2 = done-push-first .before .before .before .before in
+    let done-push-open = c .before .before in
+    let taken2 = done-push-open .before .before .before .before in
     let left1 = taken2 .before .before in
     let at = left1 .before .before .before .before .before in
-    queued-to (at .pre) (new left1) (done-push-first .push-first .kept .1 .1 .1 .0) (done-push-first .push-first .ensures) (inl (taken2 .if2 .taken, refl))
+    queued-to
+    (at .pre)
+    (new left1)
+    (done-push-open .push-open .kept .1 .1 .1 .0)
+    (done-push-open .push-open .ensures)
+    (inr (omega (arith, taken2 .if2 .taken), refl))
 
-push-requires : tie.Need-push-requires
-push-requires c κs =
-    let left1 = c .before .before .before .before .before in
+push-first-requires : tie.Need-push-first-requires
+push-first-requires c κs =
+    let taken3 = c .before .before .before in
+    let left1 = taken3 .before .before .before in
     let at = left1 .before .before .before .before .before in
-    fits (at .pre) (new left1)
+    (fits (at .pre) (new left1), not-open (at .pre) (taken3 .if3 .taken))
 
 same-length-3 : tie.Need-same-length-3
 same-length-3 c = search needs
 
 returns-3 : tie.Need-returns-3
 returns-3 c =
-    let done-push = c .before .before in
-    let left2 = done-push .before .before .before .before in
-    let left1 = left2 .before .before in
+    let done-push-first = c .before .before in
+    let taken3 = done-push-first .before .before .before .before in
+    let left1 = taken3 .before .before .before in
     let at = left1 .before .before .before .before .before in
-    queued-to (at .pre) (new left1) (done-push .push .kept .1 .1 .1 .0) (done-push .push .ensures) (inr (left2 .if2 .left, refl))
+    queued-to
+    (at .pre)
+    (new left1)
+    (done-push-first .push-first .kept .1 .1 .1 .0)
+    (done-push-first .push-first .ensures)
+    (inl (taken3 .if3 .taken, refl))
+
+push-requires : tie.Need-push-requires
+push-requires c κs =
+    let left1 = c .before .before .before .before .before .before in
+    let at = left1 .before .before .before .before .before in
+    fits (at .pre) (new left1)
+
+same-length-4 : tie.Need-same-length-4
+same-length-4 c = search needs
+
+returns-4 : tie.Need-returns-4
+returns-4 c =
+    let done-push = c .before .before in
+    let left3 = done-push .before .before .before .before in
+    let left1 = left3 .before .before .before in
+    let at = left1 .before .before .before .before .before in
+    queued-to (at .pre) (new left1) (done-push .push .kept .1 .1 .1 .0) (done-push .push .ensures) (inr (left3 .if3 .left, refl))
 
 pub visit-spec : {M : Type 1} → statement M
 visit-spec =
@@ -78,9 +106,12 @@ visit-spec =
     returns
     shared-slice-read-l
     cast-l
-    push-first-requires
+    push-open-requires
     same-length-2
     returns-2
-    push-requires
+    push-first-requires
     same-length-3
-    returns-3)
+    returns-3
+    push-requires
+    same-length-4
+    returns-4)

@@ -4,7 +4,7 @@ use Prim.Native.Nat.{_+_}
 use mathlib.Core.Path.{sym, _∙_}
 use native.Mathlib.Omega.{arith}
 use borrow.Author.Tests.{eqb-true}
-use Rattle.visits.specs.Visits.{held, Based, Visiting}
+use Rattle.visits.specs.Visits.{held, Visiting}
 use Rattle.visits.proofs.Visits.{standing-in, met-already, on-side, covers, climbs, replaceable, follows}
 use Rattle.visits.proofs.Beside.{based-here, row-ends, visit-right, is-right}
 use borrow.Author.Needs.{needs}

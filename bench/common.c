@@ -1,0 +1,31 @@
+/* What the programs of the benchmark share: the steps, the memory, the clock. */
+#include "bench.h"
+
+#include <stdlib.h>
+#include <string.h>
+#include <time.h>
+
+uint32_t steps[STEPS];
+const char *const kinds[KINDS] = {"floc", "noise", "smooth", "ramp", "flat", "checkerboard"};
+
+void steps_make(void) {
+    for (uint32_t i = 0; i < STEPS; i++)
+        steps[i] = 1 + i + i * i / 16;
+}
+
+static void *touched(size_t bytes) {
+    void *memory = malloc(bytes);
+    if (memory == NULL)
+        exit(2);
+    return memset(memory, 0xa5, bytes);
+}
+
+result_t lend(void) {
+    return (result_t){touched(6 * PIXELS * sizeof(uint32_t)), touched(PIXELS), touched(PIXELS), touched(PIXELS * sizeof(uint16_t)), 0};
+}
+
+double milliseconds(void) {
+    struct timespec t;
+    clock_gettime(CLOCK_THREAD_CPUTIME_ID, &t);
+    return t.tv_sec * 1e3 + t.tv_nsec / 1e6;
+}

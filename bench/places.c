@@ -1,0 +1,67 @@
+/*
+ * Two libraries, each at four places of the program, called in turn on pictures of 1,048,576 pixels by area. Prints for build and map the
+ * ratio of their times, each the mean over its places of the median of the rounds, and the least and the largest ratio of two places.
+ *
+ *   places [ROUNDS] [4|8]
+ */
+#include "bench.h"
+
+#include <stdio.h>
+#include <stdlib.h>
+
+enum { PLACES = 4, MOST_ROUNDS = 1001 };
+
+call_fn before_0, before_16, before_32, before_48, library_0, library_16, library_32, library_48;
+
+static call_fn *const calls[2][PLACES] = {{before_0, before_16, before_32, before_48}, {library_0, library_16, library_32, library_48}};
+
+static double times[2][PLACES][MOST_ROUNDS];
+
+static int rising(const void *a, const void *b) {
+    double x = *(const double *)a, y = *(const double *)b;
+    return (x > y) - (x < y);
+}
+
+static void print_ratios(const char *kind, int part, int rounds) {
+    double mean[2] = {0, 0}, least[2], largest[2];
+    for (int library = 0; library < 2; library++)
+        for (int place = 0; place < PLACES; place++) {
+            double *t = times[library][place];
+            qsort(t, rounds, sizeof *t, rising);
+            double median = t[rounds / 2];
+            mean[library] += median / PLACES;
+            least[library] = place == 0 || median < least[library] ? median : least[library];
+            largest[library] = place == 0 || median > largest[library] ? median : largest[library];
+        }
+    printf("%-13s %-6s %6.2f ms %6.2f before   %.3f (%.3f to %.3f)\n", kind, part == BUILD ? "build" : "map", mean[1], mean[0],
+           mean[1] / mean[0], least[1] / largest[0], largest[1] / least[0]);
+}
+
+int main(int count, char **words) {
+    int rounds = count > 1 ? atoi(words[1]) : 61;
+    uint32_t neighbours = count > 2 ? (uint32_t)atoi(words[2]) : 4;
+    if (rounds < 1 || rounds > MOST_ROUNDS || (neighbours != 4 && neighbours != 8)) {
+        fprintf(stderr, "places: 1 to %d rounds, 4 or 8 neighbours\n", MOST_ROUNDS);
+        return 2;
+    }
+    steps_make();
+    result_t result = lend();
+    for (int kind = 0; kind < KINDS; kind++) {
+        picture_t picture;
+        if (!picture_make(&picture, kinds[kind], SIDE, SIDE))
+            return 2;
+        picture.neighbours = neighbours;
+        for (int part = BUILD; part <= MAP; part += MAP - BUILD) {
+            for (int round = 0; round < rounds; round++)
+                for (int k = 0; k < 2 * PLACES; k++) {
+                    int which = (k + round) % (2 * PLACES);
+                    double start = milliseconds();
+                    calls[which % 2][which / 2](part, &picture, AREA, &result);
+                    times[which % 2][which / 2][round] = milliseconds() - start;
+                }
+            print_ratios(kinds[kind], part, rounds);
+        }
+        free(picture.greys);
+    }
+    return 0;
+}
