@@ -197,15 +197,21 @@ fn comb(random: &mut Random, width: usize, height: usize) -> Vec<u8> {
     })
 }
 
+/// One of three greys for each square of the side named, row by row.
+fn cells(random: &mut Random, width: usize, height: usize, side: usize) -> Vec<u8> {
+    let palette = [random.byte(), random.byte(), random.byte()];
+    let mut greys = Vec::new();
+    for _ in 0..(width / side + 1) * (height / side + 1) {
+        greys.push(random.pick(&palette));
+    }
+    greys
+}
+
 /// Flat patches in a dark net, with a few bridges.
 fn bridges(random: &mut Random, width: usize, height: usize) -> Vec<u8> {
     let cell = random.between(2, 5);
-    let palette = [random.byte(), random.byte(), random.byte()];
+    let patch = cells(random, width, height, cell);
     let dark = random.below(40) as u8;
-    let mut patch = Vec::new();
-    for _ in 0..(width / cell + 1) * (height / cell + 1) {
-        patch.push(random.pick(&palette));
-    }
     by_place(width, height, |row, column| {
         let net = row % cell == 0 || column % cell == 0;
         if net && random.chance(5, 6) {
@@ -247,12 +253,8 @@ fn diagonals(random: &mut Random, width: usize, height: usize) -> Vec<u8> {
 /// Squares of a few greys that touch at their corners alone.
 fn corners(random: &mut Random, width: usize, height: usize) -> Vec<u8> {
     let square = random.between(1, 3);
-    let palette = [random.byte(), random.byte(), random.byte()];
+    let squares = cells(random, width, height, square);
     let dark = random.below(40) as u8;
-    let mut squares = Vec::new();
-    for _ in 0..(width / square + 1) * (height / square + 1) {
-        squares.push(random.pick(&palette));
-    }
     by_place(width, height, |row, column| {
         let (down, across) = (row / square, column / square);
         if (down + across) % 2 == 0 {
