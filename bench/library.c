@@ -1,6 +1,6 @@
 /*
- * The library's calls as the benchmark makes them. This file is compiled once for the library, as library_call, and once more for
- * an earlier one that it is compared with, as before_call, against that one's own header.
+ * The library's calls as the benchmark makes them. This file is compiled for each library that is measured, against its own header, under
+ * the name that LIBRARY_CALL gives.
  */
 #include "bench.h"
 #include "teldruf.h"

@@ -1,16 +1,17 @@
 # What bench/run and bench/places share. $here is this folder, $out the one for what is made.
+# shellcheck shell=sh
 
 # built ROOT: the static library of a checkout
 built() {
     (cd "$1" && rt staticlib teldruf) > "$out/staticlib" 2>&1 || { cat "$out/staticlib"; exit 1; }
 }
 
-# object ROOT NAME LIBRARY: $out/NAME.o, the library of a checkout with its bench/library.c as NAME, which alone can be seen, so that the names of
-# two libraries do not meet; library.c is a copy, so that it takes the bench.h of this benchmark
+# object ROOT NAME: $out/NAME.o, the library of a checkout with its bench/library.c as NAME, which alone can be seen, so that the names of two
+# libraries do not meet; library.c is a copy, so that it takes the bench.h of this benchmark
 object() {
     cp "$1/bench/library.c" "$out/$2.c"
     gcc -O3 -c -DLIBRARY_CALL="$2" -I "$here" -I "$1/include" -o "$out/$2.call.o" "$out/$2.c"
-    ld -r -o "$out/$2.all.o" "$out/$2.call.o" "$3"
+    ld -r -o "$out/$2.all.o" "$out/$2.call.o" "$1/target/staticlib/libteldruf.a"
     objcopy --keep-global-symbol="$2" "$out/$2.all.o" "$out/$2.o"
 }
 

@@ -56,8 +56,12 @@ int main(int count, char **words) {
                 for (int k = 0; k < 2 * PLACES; k++) {
                     int which = (k + round) % (2 * PLACES);
                     double start = milliseconds();
-                    calls[which % 2][which / 2](part, &picture, AREA, &result);
+                    uint64_t answer = calls[which % 2][which / 2](part, &picture, AREA, &result);
                     times[which % 2][which / 2][round] = milliseconds() - start;
+                    if (answer >> 32 != 0) {
+                        fprintf(stderr, "places: a call was refused\n");
+                        return 2;
+                    }
                 }
             print_ratios(kinds[kind], part, rounds);
         }

@@ -22,7 +22,7 @@ fn met(n: usize, q: usize, ws: &[u32]) -> bool
 
 // Visits q, a neighbour of p, the pixel at the head of the current level: it is put into its queue unless it is met. The answer is the level
 // at which the flood goes on: q's where q was not met and is brighter, else the one given. (Of two pixels the compiler could not tell that they
-// differ.)
+// differ.) A node is open at the level given, and none at a brighter one: of those two nothing need be asked.
 fn visit(
     picture: &[u8],
     grid: Grid,
