@@ -23,7 +23,6 @@ enum { CAMERA_SECONDS = 20 };
 enum { LIBRARY, FLOOD, UNION, EARLIER, WAYS };
 
 static const char *const ways[] = {"library", "flooding in C", "union-find in C", "the earlier library"};
-static const char *const parts[PARTS] = {"build", "opening", "map"};
 static const char *const attributes[] = {"area", "height", "width"};
 
 /* How many of the ways run: the earlier library where it knows the neighbours named. */

@@ -10,9 +10,10 @@ enum { AREA = 1, HEIGHT = 2, WIDTH = 3 };
 enum { BUILD, OPENING, MAP, PARTS };
 enum { STEPS = 256, THRESHOLD = 40, SIDE = 1024, PIXELS = SIDE * SIDE, KINDS = 6 };
 
-/* What every call is given, once steps_make is called, and the kinds of pictures. */
+/* What every call is given, once steps_make is called, the kinds of pictures, and the calls' names. */
 extern uint32_t steps[STEPS];
 extern const char *const kinds[KINDS];
+extern const char *const parts[PARTS];
 
 void steps_make(void);
 

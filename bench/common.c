@@ -7,6 +7,7 @@
 
 uint32_t steps[STEPS];
 const char *const kinds[KINDS] = {"floc", "noise", "smooth", "ramp", "flat", "checkerboard"};
+const char *const parts[PARTS] = {"build", "opening", "map"};
 
 void steps_make(void) {
     for (uint32_t i = 0; i < STEPS; i++)

@@ -1,6 +1,6 @@
 /*
- * Two libraries, each at four places of the program, called in turn on pictures of 1,048,576 pixels by area. Prints for build and map the
- * ratio of their times, each the mean over its places of the median of the rounds, and the least and the largest ratio of two places.
+ * Two libraries, each at four places of the program, called in turn on pictures of 1,048,576 pixels by area. Prints for each call the ratio
+ * of their times, each the mean over its places of the median of the rounds, and the least and the largest ratio of two places.
  *
  *   places [ROUNDS] [4|8]
  */
@@ -33,8 +33,8 @@ static void print_ratios(const char *kind, int part, int rounds) {
             least[library] = place == 0 || median < least[library] ? median : least[library];
             largest[library] = place == 0 || median > largest[library] ? median : largest[library];
         }
-    printf("%-13s %-6s %6.2f ms %6.2f before   %.3f (%.3f to %.3f)\n", kind, part == BUILD ? "build" : "map", mean[1], mean[0],
-           mean[1] / mean[0], least[1] / largest[0], largest[1] / least[0]);
+    printf("%-13s %-8s %6.2f ms %6.2f before   %.3f (%.3f to %.3f)\n", kind, parts[part], mean[1], mean[0], mean[1] / mean[0],
+           least[1] / largest[0], largest[1] / least[0]);
 }
 
 int main(int count, char **words) {
@@ -51,7 +51,7 @@ int main(int count, char **words) {
         if (!picture_make(&picture, kinds[kind], SIDE, SIDE))
             return 2;
         picture.neighbours = neighbours;
-        for (int part = BUILD; part <= MAP; part += MAP - BUILD) {
+        for (int part = 0; part < PARTS; part++) {
             for (int round = 0; round < rounds; round++)
                 for (int k = 0; k < 2 * PLACES; k++) {
                     int which = (k + round) % (2 * PLACES);
