@@ -1,7 +1,9 @@
-// The accumulators of the attributes, one word each: of no pixel, of one, of two sets together, and the attribute that is read from one.
+// The accumulators of the attributes, one word each: of no pixel, of one, of a set on the frame, of two sets together, and the attribute that
+// is read from one.
 ghost use mathlib.Core.Path.{_≡_};
-ghost use Prim.Native.Nat.{_<_, min, max};
-ghost use Rattle.accumulators.specs.Accumulators.{nothing, single, combined, measured, Small, Short, In-order};
+ghost use Prim.Native.Nat.{_+_, _/_, _%_, _<_, min, max};
+ghost use Rattle.causes.specs.Bounds.{longest-side};
+ghost use Rattle.accumulators.specs.Accumulators.{packed, nothing, seen, framed, combined, measured, Small, Capped, Short, In-order};
 use grid::Grid;
 
 fn smaller(x: u32, y: u32) -> u32
@@ -32,11 +34,11 @@ pub fn none(attribute: u32) -> u32
     causes::LONGEST_SIDE - 1
 }
 
-// The accumulator of the pixel q.
+// The accumulator of what is seen of the pixel q.
 pub fn one(grid: Grid, attribute: u32, q: usize) -> u32
     requires { ⌜ 0 < grid .width ⌝ }
     requires { ⌜ Short grid attribute q ⌝ }
-    ensures { λ r. ⌜ r ≡ single grid attribute q ⌝ }
+    ensures { λ r. ⌜ r ≡ seen grid attribute q ⌝ }
 {
     if attribute == 1 {
         return 1;
@@ -48,6 +50,27 @@ pub fn one(grid: Grid, attribute: u32, q: usize) -> u32
     (q % width) as u32 * (causes::LONGEST_SIDE + 1)
 }
 
+// The accumulator of a set that has a pixel on the frame, from what is seen of it.
+pub fn mark(attribute: u32, x: u32) -> u32
+    ensures { λ r. ⌜ r ≡ framed attribute x ⌝ }
+{
+    if attribute == 1 {
+        return causes::TOP_THRESHOLD;
+    }
+    causes::LONGEST_SIDE * causes::LONGEST_SIDE + x % causes::LONGEST_SIDE
+}
+
+// The greatest and the least row (column) of two sets.
+fn outer_ends(x: u32, y: u32) -> u32
+    requires { ⌜ Small x ⌝ }
+    requires { ⌜ Small y ⌝ }
+    ensures { λ r. ⌜ r ≡ packed (max (x / longest-side) (y / longest-side)) (min (x % longest-side) (y % longest-side)) ⌝ }
+{
+    let last = larger(x / causes::LONGEST_SIDE, y / causes::LONGEST_SIDE);
+    let first = smaller(x % causes::LONGEST_SIDE, y % causes::LONGEST_SIDE);
+    last * causes::LONGEST_SIDE + first
+}
+
 // The accumulator of two sets that do not meet.
 pub fn combine(attribute: u32, x: u32, y: u32) -> u32
     requires { ⌜ Small x ⌝ }
@@ -55,11 +78,22 @@ pub fn combine(attribute: u32, x: u32, y: u32) -> u32
     ensures { λ r. ⌜ r ≡ combined attribute x y ⌝ }
 {
     if attribute == 1 {
+        return smaller(x + y, causes::TOP_THRESHOLD);
+    }
+    outer_ends(x, y)
+}
+
+// The same of areas that cannot reach beyond the top threshold.
+pub fn add(attribute: u32, x: u32, y: u32) -> u32
+    requires { ⌜ Small x ⌝ }
+    requires { ⌜ Small y ⌝ }
+    requires { ⌜ Capped attribute (x + y) ⌝ }
+    ensures { λ r. ⌜ r ≡ combined attribute x y ⌝ }
+{
+    if attribute == 1 {
         return x + y;
     }
-    let last = larger(x / causes::LONGEST_SIDE, y / causes::LONGEST_SIDE);
-    let first = smaller(x % causes::LONGEST_SIDE, y % causes::LONGEST_SIDE);
-    last * causes::LONGEST_SIDE + first
+    outer_ends(x, y)
 }
 
 // The attribute that is read from an accumulator.
@@ -69,6 +103,9 @@ pub fn measure(attribute: u32, x: u32) -> u32
 {
     if attribute == 1 {
         return x;
+    }
+    if causes::LONGEST_SIDE <= x / causes::LONGEST_SIDE {
+        return causes::TOP_THRESHOLD;
     }
     x / causes::LONGEST_SIDE - x % causes::LONGEST_SIDE + 1
 }

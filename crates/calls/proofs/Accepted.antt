@@ -11,7 +11,7 @@ use Rattle.sets.proofs.Tests.{and-left, and-right}
 use Rattle.opening.specs.Residue.{rising}
 use Rattle.grid.specs.Pixels.{pixels}
 use Rattle.grid.specs.declared.Grid.{Grid}
-use Rattle.causes.specs.Bounds.{most-steps, words-a-pixel}
+use Rattle.causes.specs.Bounds.{top-threshold, most-steps, words-a-pixel}
 use Rattle.causes.specs.Sides.{sides-fit}
 pub use Rattle.causes.proofs.Laws.{Bounded, bounded}
 use Rattle.causes.specs.declared.Cause.{Cause}
@@ -24,6 +24,11 @@ use Rattle.calls.specs.declared.Verdict.the-variants.{Accepted, Refused}
 pub threshold-some : (t : ℕ) → threshold-good t ≡ true → 1 ≤ t
 unfolding threshold-good
 threshold-some t good = leb-true 1 t (and-left (leb 1 t) _ good)
+
+-- and at most the top threshold
+pub threshold-top : (t : ℕ) → threshold-good t ≡ true → t ≤ top-threshold
+unfolding threshold-good
+threshold-top t good = leb-true t top-threshold (and-right (leb 1 t) _ good)
 
 -- a step list
 pub record Step-list (steps : List ℕ) : Type 0 where

@@ -1,4 +1,5 @@
 pub mod Openings
+pub mod Frame
 pub mod Accepted
 pub mod Judging
 pub mod Answers

@@ -1,5 +1,5 @@
 -- What the scope says of an opening of a picture with the greys g, at every threshold. Each law cites one over
--- any test on sets.
+-- any test on sets. A picture has no more pixels than it may have.
 use Prim.Native.Nat.{ℕ, _≤_, _<_}
 use mathlib.Core.Logic.{_↔_, inl, inr}
 use mathlib.Core.Path.{_≡_}
@@ -11,6 +11,7 @@ use Rattle.grid.specs.Attributes.{attribute}
 use Rattle.grid.specs.declared.Grid.{Grid}
 use Rattle.grid.proofs.Attributes.{adjacent-symmetric, attribute-increasing, attribute-needs-pixel}
 use Rattle.grid.proofs.Whole.{grid-whole}
+use Rattle.causes.specs.Bounds.{most-pixels}
 use Rattle.opening.specs.Opening.{component-at, least-grey, Upward, at-least, Greatest}
 use Rattle.opening.specs.Node.{node}
 use Rattle.opening.proofs.Threshold.{at-least-up}
@@ -24,9 +25,9 @@ greatest-same : (P Q : ℕ → Type 0) → ((h : ℕ) → P h ↔ Q h) → (leas
 greatest-same P Q same least v (inl (pass, highest)) = inl (same v .0 pass, λ h pass-h. highest h (same h .1 pass-h))
 greatest-same P Q same least v (inr (none, is-least)) = inr ((λ h pass. none h (same h .1 pass)), is-least)
 
-module _ (grid : Grid) (a t : ℕ) (g : ℕ → ℕ) (p : ℕ) where
+module _ (grid : Grid) (few : pixels grid ≤ most-pixels) (a t : ℕ) (g : ℕ → ℕ) (p : ℕ) where
   up : Upward (pixels grid) (at-least (attribute grid a) t)
-  up = at-least-up (pixels grid) (attribute grid a) (attribute-increasing grid a) t
+  up = at-least-up (pixels grid) (attribute grid a) (attribute-increasing grid a few) t
 
   -- "Opening at threshold t, from 1 [on]: a pixel's new grey is the greatest h for which its component of the level set at h has
   -- attribute t or more; the picture's least grey if there is none."

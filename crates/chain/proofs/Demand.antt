@@ -27,6 +27,7 @@ use Rattle.calls.specs.Judging.{steps-good, accepted as is-accepted, verdict-nu
 use Rattle.calls.specs.declared.Verdict.{Verdict}
 use Rattle.calls.specs.declared.Verdict.the-variants.{Accepted, Refused}
 use Rattle.calls.proofs.Accepted.{bounded, step-list}
+use Rattle.causes.specs.Bounds.{most-pixels}
 use Rattle.calls.specs.Calls.{grey, opening, opening-of, open-verdict, open-output, Map-call, mapping-of, map-verdict, map-residue, map-index, residue-map, index-map}
 use Rattle.chain.specs.Chain.{Call, verdict, accepted, answered, handed-on, Chain, Claim, Named, Equal, Whole, No-node-between, chain-picture, accepted-thresholds, largest-threshold, chain-falls, chain-residues, chain-indices}
 use Rattle.chain.proofs.Handed.{Opened-at, opened-picture-at, output-accepted, handed-refused, chain-opened, chain-falls-openings, chain-falls-total}
@@ -73,9 +74,9 @@ module _ (grid : Grid) (a : ℕ) (original : List ℕ) where
   original-opened p below = sym (opened-zero (pixels grid) (adjacent grid) (attribute grid a) (grey original) p below)
 
   -- a picture that is the opening at some threshold is a leveling
-  opened-at-leveling : (t : ℕ) (picture : List ℕ) → Opened-at grid a t (grey original) picture
+  opened-at-leveling : pixels grid ≤ most-pixels → (t : ℕ) (picture : List ℕ) → Opened-at grid a t (grey original) picture
       → Leveling (pixels grid) (adjacent grid) (grey original) (grey picture)
-  opened-at-leveling t picture at =
+  opened-at-leveling few t picture at =
       leveling-ext
       (pixels grid)
       (adjacent grid)
@@ -88,7 +89,7 @@ module _ (grid : Grid) (a : ℕ) (original : List ℕ) where
       (adjacent grid)
       (adjacent-symmetric grid)
       (at-least (attribute grid a) t)
-      (at-least-up (pixels grid) (attribute grid a) (attribute-increasing grid a) t)
+      (at-least-up (pixels grid) (attribute grid a) (attribute-increasing grid a few) t)
       (grey original))
 
   -- the single opening is the opening at its threshold
@@ -109,16 +110,16 @@ module _ (grid : Grid) (a : ℕ) (original : List ℕ) where
         (omega arith)
         (chain-opened grid a 0 (grey original) original calls named original-opened)
 
-    chain-equal : (t : ℕ) (single : List ℕ) → Opened-at grid a t (grey original) single
+    chain-equal : pixels grid ≤ most-pixels → (t : ℕ) (single : List ℕ) → Opened-at grid a t (grey original) single
         → Equal (pixels grid) (chain-picture original calls) single ↔ No-node-between grid a original t (largest-threshold original calls)
-    chain-equal t single at =
+    chain-equal few t single at =
         let agree =
         opened-equal
         (pixels grid)
         (adjacent grid)
         (adjacent-symmetric grid)
         (attribute grid a)
-        (attribute-increasing grid a)
+        (attribute-increasing grid a few)
         (grey original)
         t
         (largest-threshold original calls) in (
@@ -166,20 +167,26 @@ module _ (grid : Grid) (a : ℕ) (original : List ℕ) where
   -- Demand 3: for every chain, and every single opening and map call that it is compared with.
   pub chain-claim : (calls : List Call) → Chain grid a original calls → Claim grid a original calls
   chain-claim calls chain =
+      let fits = bounded (grid .width) (grid .height) (chain .sides) in
       record {
         refused = refused-answer;
-        root = root-exactly grid original (bounded (grid .width) (grid .height) (chain .sides) .wide);
+        root = root-exactly grid original (fits .wide);
         equal = λ t workspace output ok.
             chain-equal
             calls
             (chain .named)
+            (fits .small)
             t
             (open-output (opening-of original grid a t workspace output))
             (single-opened t workspace output ok);
         chain-leveling =
-            opened-at-leveling (largest-threshold original calls) (chain-picture original calls) (chain-is-opened calls (chain .named));
+            opened-at-leveling
+            (fits .small)
+            (largest-threshold original calls)
+            (chain-picture original calls)
+            (chain-is-opened calls (chain .named));
         single-leveling = λ t workspace output ok.
-            opened-at-leveling t (open-output (opening-of original grid a t workspace output)) (single-opened t workspace output ok);
+            opened-at-leveling (fits .small) t (open-output (opening-of original grid a t workspace output)) (single-opened t workspace output ok);
         falls = chain-falls-total grid a original calls (chain .named);
         maps = λ steps thresholds good workspace residue index ok.
             let (same-residues, same-indices) = chain-maps calls (chain .named) steps thresholds good in

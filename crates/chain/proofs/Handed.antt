@@ -14,13 +14,14 @@ use Rattle.grid.specs.Neighbours.{adjacent}
 use Rattle.grid.specs.Attributes.{attribute}
 use Rattle.grid.specs.declared.Grid.{Grid}
 use Rattle.grid.proofs.Attributes.{adjacent-symmetric, attribute-increasing}
+use Rattle.causes.specs.Bounds.{most-pixels}
 use Rattle.opening.specs.Opening.{at-least}
 use Rattle.opening.specs.Residue.{falls-from, total, largest, rising, threshold-tests, openings-by}
 use Rattle.opening.proofs.Levels.{cond-case}
 use Rattle.opening.proofs.Opened.{opened-le}
 use Rattle.opening.proofs.Threshold.{opened-after}
 use Rattle.calls.specs.Calls.{grey, opening, opened-picture, Open-call, open-verdict, open-output}
-use Rattle.calls.proofs.Accepted.{accepted-verdict}
+use Rattle.calls.proofs.Accepted.{open-passed, bounded, accepted-verdict}
 use Rattle.calls.specs.declared.Verdict.the-variants.{Accepted}
 use Rattle.chain.specs.Chain.{Call, given-to, verdict, accepted, handed-on, chain-picture, accepted-thresholds, chain-falls, Named}
 
@@ -79,6 +80,17 @@ module _ (grid : Grid) (a : ℕ) where
         (handed-accepted, opened-picture-at (call .threshold) given p below)
         (opened-le (pixels grid) (adjacent grid) (at-least (attribute grid a) (call .threshold)) (grey given) p below)
 
+    -- its picture has no more pixels than it may have
+    handed-few : pixels grid ≤ most-pixels
+    unfolding accepted
+    handed-few =
+        let (same-grid, same-attribute) = named ok in
+        let passed = open-passed (given-to given call) (accepted-verdict (verdict given call) ok) in
+        subst
+        (λ (g : Grid). pixels g ≤ most-pixels)
+        same-grid
+        (bounded (call .grid .width) (call .grid .height) (passed .common .sides) .small)
+
     -- and takes an opening on to the larger threshold
     handed-opened : (s : ℕ) (g : ℕ → ℕ) → Opened-at s g given → Opened-at (max s (call .threshold)) g (handed-on given call)
     handed-opened s g at p below =
@@ -89,7 +101,7 @@ module _ (grid : Grid) (a : ℕ) where
         (pixels grid)
         (adjacent grid)
         (attribute grid a)
-        (attribute-increasing grid a)
+        (attribute-increasing grid a handed-few)
         (adjacent-symmetric grid)
         s
         (call .threshold)

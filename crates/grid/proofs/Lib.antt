@@ -1,5 +1,6 @@
 pub mod Grids
 pub mod Attributes
+pub mod Frame
 pub mod Sides
 pub mod Whole
 pub mod Edges

@@ -17,6 +17,7 @@ use Rattle.grid.specs.declared.Grid.{Grid}
 use Rattle.grid.proofs.Attributes.{adjacent-symmetric, attribute-increasing}
 use Rattle.grid.proofs.Whole.{grid-whole}
 use Rattle.tree.proofs.Together.{Together}
+use Rattle.causes.specs.Bounds.{most-pixels}
 use Rattle.calls.specs.Calls.{grey, residue-map, index-map}
 use Rattle.levels.specs.Workspace.{up-of}
 use Rattle.numbers.specs.Nodes.{NodesOf}
@@ -47,7 +48,7 @@ module _ {n nodes : ℕ} {steps ws ws' : List ℕ} (prog : Settled-from n nodes 
   }
 
 -- on a grid the pass over the pixels leaves the maps
-module _ (grid : Grid) (a : ℕ) (picture : List ℕ) (wide : 1 ≤ grid .width) {nodes : ℕ} {steps ws ws' : List ℕ} (size : length picture ≡ pixels grid)
+module _ (grid : Grid) (a : ℕ) (picture : List ℕ) (wide : 1 ≤ grid .width) (few : pixels grid ≤ most-pixels) {nodes : ℕ} {steps ws ws' : List ℕ} (size : length picture ≡ pixels grid)
     (rises : rising 0 steps ≡ true) (prog : Settled-from (length picture) nodes steps ws ws' 0)
     (N : NodesOf grid a picture ws nodes) (bytes : (q : ℕ) → grey picture q < 256) where
   maps-grid : (table (length picture) (λ (q : ℕ). pair-at (length picture) ws' q % 256) ≡ residue-map grid a steps picture)
@@ -55,7 +56,7 @@ module _ (grid : Grid) (a : ℕ) (picture : List ℕ) (wide : 1 ≤ grid .width)
   unfolding residue-map index-map
   maps-grid =
       let attr : Positions → ℕ = attribute grid a in
-      let rise : Increasing (length picture) attr = rw size (attribute-increasing grid a) in
+      let rise : Increasing (length picture) attr = rw size (attribute-increasing grid a few) in
       let whole : (p q : ℕ) → p < length picture → q < length picture
       → Together (length picture) (adjacent grid) (grey picture) (least-grey (length picture) (grey picture)) p q =
       rw size (grid-whole grid wide (grey picture)) in
@@ -90,7 +91,7 @@ module _ {nodes : ℕ} {picture steps ws ws' residues indices : List ℕ} (ready
       record {
         kept = prog .kept;
         maps =
-            λ grid a wide size N.
-            let maps = maps-grid grid a picture wide size (ready .given .rise) prog N bytes in
+            λ grid a wide few size N.
+            let maps = maps-grid grid a picture wide few size (ready .given .rise) prog N bytes in
             (is-best ∙ maps .0, is-index ∙ maps .1);
       }

@@ -8,7 +8,7 @@ use lib.ListN.{length, getD, set}
 use Rattle.opening.specs.Residue.{rising}
 use Rattle.grid.specs.Pixels.{pixels}
 use Rattle.grid.specs.declared.Grid.{Grid}
-use Rattle.causes.specs.Bounds.{words-a-pixel, most-steps}
+use Rattle.causes.specs.Bounds.{most-pixels, words-a-pixel, most-steps}
 use Rattle.calls.specs.Calls.{residue-map, index-map}
 use Rattle.levels.specs.Workspace.{number-at, closed-of, drop-of, up-of, held-of}
 use Rattle.flooding.specs.Numbers.{Drops, Closing-order}
@@ -105,5 +105,5 @@ pub record Ready (picture steps : List ℕ) (nodes : ℕ) (ws residues indices :
 pub record Written (picture steps : List ℕ) (nodes : ℕ) (ws ws' residues indices : List ℕ) : Type 0 where
   pub kept : Kept (length picture) ws ws'
   pub maps :
-      (grid : Grid) (a : ℕ) → 1 ≤ grid .width → length picture ≡ pixels grid → NodesOf grid a picture ws nodes
+      (grid : Grid) (a : ℕ) → 1 ≤ grid .width → pixels grid ≤ most-pixels → length picture ≡ pixels grid → NodesOf grid a picture ws nodes
       → (residues ≡ residue-map grid a steps picture) × (indices ≡ index-map grid a steps picture)

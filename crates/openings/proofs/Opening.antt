@@ -15,7 +15,7 @@ use Rattle.calls.specs.Judging.{verdict-numbers}
 use Rattle.calls.specs.Calls.{grey, opened-picture, record-of, Open-call, open-verdict, open-workspace, open-output}
 use Rattle.calls.specs.declared.Verdict.{Verdict}
 use Rattle.calls.specs.declared.Verdict.the-variants.{Accepted, Refused}
-use Rattle.calls.proofs.Accepted.{Passed, Open-passed, open-passed, bounded, threshold-some}
+use Rattle.calls.proofs.Accepted.{Passed, Open-passed, open-passed, Bounded, bounded, threshold-some}
 use Rattle.openings.specs.Climbing.{Climbable, Opened-before}
 use Rattle.openings.proofs.Record.{record-climbable, pass-opened}
 
@@ -24,11 +24,11 @@ module _ (grid : Grid) (a : ℕ) (picture : List ℕ) where
   record-of-climbable size =
       record-climbable (pixels grid) (adjacent grid) (adjacent-symmetric grid) (attribute grid a) (attribute-some grid a) picture size
 
-  pub pass-opens : 1 ≤ grid .width → (t : ℕ) (output : List ℕ) → length output ≡ pixels grid
+  pub pass-opens : Bounded (grid .width) (grid .height) → (t : ℕ) (output : List ℕ) → length output ≡ pixels grid
       → Opened-before picture (record-of grid a picture) (pixels grid) t (pixels grid) output
       → output ≡ opened-picture grid a t picture
   unfolding opened-picture
-  pass-opens wide t output entries found =
+  pass-opens fits t output entries found =
       pass-opened
       (pixels grid)
       (adjacent grid)
@@ -36,8 +36,8 @@ module _ (grid : Grid) (a : ℕ) (picture : List ℕ) where
       (attribute grid a)
       (attribute-some grid a)
       picture
-      (attribute-increasing grid a)
-      (grid-whole grid wide (grey picture))
+      (attribute-increasing grid a (fits .small))
+      (grid-whole grid (fits .wide) (grey picture))
       t
       output
       entries
@@ -89,7 +89,7 @@ module _ (call : Open-call) {verdict : Verdict} (judged : verdict ≡ open-verdi
         (call .grid)
         (call .attribute)
         (call .picture)
-        (bounded (call .grid .width) (call .grid .height) (common .sides) .wide)
+        (bounded (call .grid .width) (call .grid .height) (common .sides))
         (call .threshold)
         written
         (same ∙ same-size ∙ common .a-byte-each)

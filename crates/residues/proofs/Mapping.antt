@@ -90,8 +90,8 @@ module _ (call : Map-call) {verdict : Verdict} (judged : verdict ≡ map-verdict
         unfolding map-workspace map-residue map-index
         called-done {left = left} recorded cleared =
             let is : map-verdict call ≡ Accepted = sym judged ∙ accepted in
-            let wide = bounded (call .grid .width) (call .grid .height) (common .sides) .wide in
-            let maps = written .maps (call .grid) (call .attribute) wide (common .a-byte-each) (built .nodes) in
+            let fits = bounded (call .grid .width) (call .grid .height) (common .sides) in
+            let maps = written .maps (call .grid) (call .attribute) (fits .wide) (fits .small) (common .a-byte-each) (built .nodes) in
             let cleaned : left ≡ record-of (call .grid) (call .attribute) (call .picture) =
             whole _ (common .a-byte-each) (recorded .ordered (call .grid) (call .attribute) nodes noded) cleared .left in
             rw is (refl, (cleaned, (maps .0, maps .1)))

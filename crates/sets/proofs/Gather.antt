@@ -10,7 +10,7 @@ use lib.Dec.{eqb}
 use borrow.Author.Tests.{eqb-true, eq-eqb, ne-eqb}
 use Rattle.sets.specs.Sets.{Positions, Inside}
 use Rattle.sets.specs.Gather.{gather, first-in}
-use Rattle.sets.proofs.Tests.{last-or-below, le-or-lt}
+use Rattle.sets.proofs.Tests.{decided, last-or-below, le-or-lt}
 
 -- what is gathered depends on the positions below n only
 pub gather-ext : (n : ℕ) (op : ℕ → ℕ → ℕ) (e : ℕ) (f : ℕ → ℕ) (s t : Positions) → ((q : ℕ) → q < n → s q ≡ t q) → gather n op e f s ≡ gather n op e f t
@@ -79,6 +79,14 @@ min-le n e f s q b h = omega (arith, gather-one n min e f q b, min-mono n e f (e
 -- and the greatest at least
 pub max-ge : (n e : ℕ) (f : ℕ → ℕ) (s : Positions) (q : ℕ) → q < n → s q ≡ true → f q ≤ gather n max e f s
 max-ge n e f s q b h = omega (arith, gather-one n max e f q b, max-mono n e f (eqb q) s (one-inside n s q h))
+
+-- and no more than a bound on all values
+pub max-le : (n e : ℕ) (f : ℕ → ℕ) (s : Positions) (b : ℕ) → e ≤ b → ((q : ℕ) → q < n → f q ≤ b) → gather n max e f s ≤ b
+unfolding gather
+max-le zero e f s b start each = start
+max-le (suc n) e f s b start each =
+    let rest : gather n max e f s ≤ b = max-le n e f s b start (λ q c. each q (omega arith)) in
+    ⊎-elim (λ t. rw t (omega (arith, each n (omega arith)))) (λ t. rw t rest) (decided (s n))
 
 -- v is e, or the value at a position of s below n
 abbrev pub Found : ℕ → ℕ → (ℕ → ℕ) → Positions → ℕ → Type 0
