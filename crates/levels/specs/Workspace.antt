@@ -2,7 +2,9 @@
 use Prim.Native.Nat.{ℕ, _+_, _*_, _/_, _%_, _≤_}
 use mathlib.Core.List.{List}
 use mathlib.Core.Path.{_≡_}
+use lib.Dec.{eqb}
 use lib.ListN.{getD, length}
+use Rattle.sets.specs.Sets.{Positions}
 use Rattle.causes.specs.Bounds.{most-pixels, words-a-pixel}
 
 -- a workspace with its words for each of n pixels, which are not too many
@@ -18,6 +20,10 @@ order-of n ws i = getD ws (2 * n + i) 0
 -- number × 256 + its drop
 abbrev pub number-at : List ℕ → ℕ → ℕ
 number-at ws q = getD ws q 0
+
+-- the own pixels of the node of number k
+abbrev pub numbered : List ℕ → ℕ → Positions
+numbered ws k q = eqb (number-at ws q) k
 
 abbrev pub closed-of : ℕ → List ℕ → ℕ → ℕ
 closed-of n ws i = getD ws (n + i) 0 / 256

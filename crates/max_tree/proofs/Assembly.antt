@@ -25,7 +25,7 @@ use Rattle.tree.proofs.Record.{representative-lowest, parent-lowest}
 use Rattle.causes.specs.Bounds.{longest-side}
 use Rattle.causes.proofs.Laws.{Bounded, bounded}
 use Rattle.levels.specs.Levels.{grey}
-use Rattle.levels.specs.Workspace.{Sized, number-at, closed-of, lowest-of, up-of, held-of}
+use Rattle.levels.specs.Workspace.{Sized, number-at, numbered, closed-of, lowest-of, up-of, held-of}
 use Rattle.flooding.specs.Numbers.{parent-by}
 use Rattle.flood.specs.Calls.{Floodable, NumberedBy}
 use Rattle.accumulators.specs.Accumulators.{nothing, single, combined, measured, gathered, Short}
@@ -35,7 +35,7 @@ use Rattle.branches.proofs.Branches.{node-branch}
 use Rattle.numbers.specs.Nodes.{NodesOf}
 use Rattle.numbers.proofs.Same.{order-same, drops-same, numbered-same}
 use Rattle.numbers.proofs.Numbers.{number-forest, parent-first, number-root, number-lowest}
-use Rattle.own_pixels.specs.OwnPixels.{numbered, Countable, Owned}
+use Rattle.own_pixels.specs.OwnPixels.{Countable, Owned}
 use Rattle.descendants.specs.Pouring.{Pourable, Poured}
 use Rattle.max_tree.specs.Building.{Buildable, Noded}
 

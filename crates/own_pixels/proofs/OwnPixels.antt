@@ -19,12 +19,12 @@ use Rattle.grid.specs.declared.Grid.{Grid}
 use Rattle.causes.specs.Bounds.{words-a-pixel}
 use Rattle.causes.proofs.Lists.{length-two}
 use Rattle.levels.specs.Tables.{Changed}
-use Rattle.levels.specs.Workspace.{number-at, lowest-of, up-of, held-of}
+use Rattle.levels.specs.Workspace.{number-at, numbered, lowest-of, up-of, held-of}
 use Rattle.levels.proofs.Counts.{by-cases, equal-or-not}
 use Rattle.accumulators.specs.Accumulators.{nothing, single, combined, gathered, Small}
 use Rattle.accumulators.proofs.Accumulators.{gathered-with, single-small, gathered-small, bound-small, bound-one}
 use Rattle.parts.proofs.Parts.{lent, returned, lent-long, lent-read, read-one, read-two, read-else}
-use Rattle.own_pixels.specs.OwnPixels.{numbered, Countable, Blank, Gatherable, gathered-at, Owned}
+use Rattle.own_pixels.specs.OwnPixels.{Countable, Blank, Gatherable, gathered-at, Owned}
 
 -- the words of the nodes, and the three of the node k among them
 abbrev nodes : ℕ → List ℕ → List ℕ

@@ -8,12 +8,8 @@ use Rattle.sets.specs.Sets.{Positions}
 use Rattle.sets.specs.Gather.{first-in}
 use Rattle.grid.specs.declared.Grid.{Grid}
 use Rattle.causes.specs.Bounds.{most-pixels}
-use Rattle.levels.specs.Workspace.{Sized, number-at, lowest-of, up-of, held-of}
+use Rattle.levels.specs.Workspace.{Sized, number-at, numbered, lowest-of, up-of, held-of}
 use Rattle.accumulators.specs.Accumulators.{nothing, single, combined, gathered, Small, Short}
-
--- the own pixels of the node of number k
-abbrev pub numbered : List ℕ → ℕ → Positions
-numbered ws k x = eqb (number-at ws x) k
 
 -- each of n pixels has the number of one of m nodes, each node has a pixel, and rows and columns are short
 pub record Countable (grid : Grid) (a n m : ℕ) (ws : List ℕ) : Type 0 where

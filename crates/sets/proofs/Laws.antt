@@ -93,6 +93,11 @@ one-le true false h = absurd (false≢true (h refl))
 one-le false true h = omega arith
 one-le false false h = omega arith
 
+pub some-in-ext : (n : ℕ) (s t : Positions) → ((q : ℕ) → q < n → s q ≡ t q) → some-in n s ≡ some-in n t
+unfolding some-in
+some-in-ext zero s t h = refl
+some-in-ext (suc n) s t h = cc (h n (omega arith), some-in-ext n s t (λ q b. h q (omega arith)))
+
 pub count-le : (n : ℕ) (s : Positions) → count n s ≤ n
 unfolding count
 count-le zero s = omega arith

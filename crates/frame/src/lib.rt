@@ -1,0 +1,40 @@
+// The pass over the frame, after the pass over the own pixels: the accumulator of each node with a pixel in the first or last row or column
+// notes that. Only the pixels of the frame are read, so that the pass over all pixels needs no test.
+ghost use mathlib.Core.Path.{_≡_};
+ghost use Rattle.frame.specs.Frame.{Numbered-pixel, marked-at, Markable, run, Marked, Framable};
+ghost use Rattle.grid.specs.Attributes.{on-frame};
+use grid::Grid;
+
+// Marks the node of the pixel q.
+fn mark_node(n: usize, attribute: u32, q: usize, ws: &mut [u32])
+    requires { ⌜ Numbered-pixel n q (now ws) ⌝ }
+    ensures { λ _. ⌜ now (ws .exit) ≡ marked-at attribute n q (now (ws .entry)) ⌝ }
+{
+    let at = 3 * n + 3 * ws[q] as usize + 2;
+    ws[at] = accumulators::mark(attribute, ws[at]);
+}
+
+// Marks the nodes of so many pixels, each a step after the one before.
+fn mark_run(n: usize, attribute: u32, from: usize, step: usize, count: usize, ws: &mut [u32])
+    requires { ⌜ Markable n from step count (now ws) ⌝ }
+    ensures { λ _. ⌜ Marked attribute n (run from step count) (now (ws .entry)) (now (ws .exit)) ⌝ }
+{
+    let mut i = 0;
+    while i < count {
+        mark_node(n, attribute, from + i * step, ws);
+        i += 1;
+    }
+}
+
+// Marks the nodes of the pixels on the frame: the first and the last row, then the first and the last column.
+pub fn mark_frame(n: usize, grid: Grid, attribute: u32, ws: &mut [u32])
+    requires { ⌜ Framable grid n (now ws) ⌝ }
+    ensures { λ _. ⌜ Marked attribute n (on-frame grid) (now (ws .entry)) (now (ws .exit)) ⌝ }
+{
+    let width = grid.width as usize;
+    let height = grid.height as usize;
+    mark_run(n, attribute, 0, 1, width, ws);
+    mark_run(n, attribute, n - width, 1, width, ws);
+    mark_run(n, attribute, 0, width, height, ws);
+    mark_run(n, attribute, width - 1, width, height, ws);
+}
