@@ -100,9 +100,12 @@ pub seen-small : (grid : Grid) (a q : ℕ) → Short grid a q → Small (seen gr
 unfolding seen
 seen-small grid a q h = by-area a (λ e. rw e (omega arith)) (λ e. rw e (omega arith))
 
-pub seen-capped : (grid : Grid) (a q : ℕ) → Capped a (seen grid a q)
+pub seen-one : (grid : Grid) (a q : ℕ) → eqb a 1 ≡ true → seen grid a q ≡ 1
 unfolding seen
-seen-capped grid a q e = rw e (omega arith)
+seen-one grid a q e = rw e refl
+
+pub seen-capped : (grid : Grid) (a q : ℕ) → Capped a (seen grid a q)
+seen-capped grid a q e = omega (arith, seen-one grid a q e)
 
 framed-small : (a x : ℕ) → Small (framed a x)
 unfolding framed

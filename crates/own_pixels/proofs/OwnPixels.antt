@@ -11,20 +11,23 @@ use lib.ListN.{getD, length, set, take, length-set}
 use lib.Seq.{getD-set-same, getD-set-other, getD-take, take-at, drop-at, length-take-le}
 use borrow.Author.Tests.{leb-true, le-leb, lt-leb, eqb-true, eq-eqb, ne-eqb}
 use borrow.Rule.Slice.PartMut.{postOf, same-len-mid, take-put}
-use Rattle.sets.specs.Sets.{Positions}
+use Rattle.sets.specs.Sets.{Positions, some-in}
+use Rattle.sets.proofs.Laws.{some-in-ext}
 use Rattle.sets.specs.Gather.{first-in}
 use Rattle.sets.proofs.Tests.{and-left, and-right, and-both, or-right, same-truth}
 use Rattle.sets.proofs.Gather.{gather-ext, gather-none, first-in-le, first-in-holds}
+use Rattle.grid.specs.Attributes.{on-frame}
 use Rattle.grid.specs.declared.Grid.{Grid}
 use Rattle.causes.specs.Bounds.{words-a-pixel}
 use Rattle.causes.proofs.Lists.{length-two}
 use Rattle.levels.specs.Tables.{Changed}
 use Rattle.levels.specs.Workspace.{number-at, numbered, lowest-of, up-of, held-of}
 use Rattle.levels.proofs.Counts.{by-cases, equal-or-not}
-use Rattle.accumulators.specs.Accumulators.{nothing, single, combined, gathered, Small}
-use Rattle.accumulators.proofs.Accumulators.{gathered-with, single-small, gathered-small, bound-small, bound-one}
+use Rattle.accumulators.specs.Accumulators.{nothing, seen, single, framed, combined, gathered, Small, Capped}
+use Rattle.accumulators.proofs.Accumulators.{gathered-with, seen-small, seen-one, seen-capped, gathered-small, gathered-area-le, gathered-framed}
 use Rattle.parts.proofs.Parts.{lent, returned, lent-long, lent-read, read-one, read-two, read-else}
-use Rattle.own_pixels.specs.OwnPixels.{Countable, Blank, Gatherable, gathered-at, Owned}
+use Rattle.frame.specs.Frame.{Marked, Framable}
+use Rattle.own_pixels.specs.OwnPixels.{Countable, Kept, Blank, Gatherable, gathered-at, Owned}
 
 -- the words of the nodes, and the three of the node k among them
 abbrev nodes : ℕ → List ℕ → List ℕ
@@ -138,8 +141,8 @@ from-more num q k x e =
 
 -- the word of each number holds what is gathered of its positions after q. One position more: its value is joined to the word of its number,
 -- the others stay
-gathered-next : (a n m q : ℕ) (v num w w' : ℕ → ℕ) → q < n → ((k : ℕ) → k < m → w k ≡ gathered a n v (from num (q + 1) k)) → num q < m → Changed m w w' (num q) (combined a (w (num q)) (v q)) → (k : ℕ) → k < m → w' k ≡ gathered a n v (from num q k)
-gathered-next a n m q v num w w' b each here C k c =
+gathered-next : (a n m q : ℕ) (v num w w' : ℕ → ℕ) → q < n → Capped a (v q) → ((k : ℕ) → k < m → w k ≡ gathered a n v (from num (q + 1) k)) → num q < m → Changed m w w' (num q) (combined a (w (num q)) (v q)) → (k : ℕ) → k < m → w' k ≡ gathered a n v (from num q k)
+gathered-next a n m q v num w w' b cap each here C k c =
     by-cases
     (equal-or-not k (num q))
     (λ e.
@@ -155,6 +158,7 @@ gathered-next a n m q v num w w' b each here C k c =
     (from num q (num q))
     q
     b
+    cap
     (from-out num (q + 1) (num q) q (omega arith))
     (λ x d. from-more num q (num q) x refl))))
     (λ ne.
@@ -229,7 +233,7 @@ pub record Owning (grid : Grid) (a n m : ℕ) (ws₀ ws : List ℕ) (q : ℕ) : 
   pub before : (k : ℕ) → k < 3 * n → getD ws k 0 ≡ getD ws₀ k 0
   pub ups : (k : ℕ) → up-in (nodes n ws) k ≡ up-in (nodes n ws₀) k
   pub lowest : Least n m (number-at ws₀) (lowest-in (nodes n ws)) q
-  pub held : (k : ℕ) → k < m → held-in (nodes n ws) k ≡ gathered a n (single grid a) (from (number-at ws₀) q k)
+  pub held : (k : ℕ) → k < m → held-in (nodes n ws) k ≡ gathered a n (seen grid a) (from (number-at ws₀) q k)
 
 -- the pass over a workspace whose nodes `blank` has left as `words`
 module _ {grid : Grid} {a n m : ℕ} {ws words : List ℕ} (start : Countable grid a n m ws) (blank : Blank a m (nodes n ws) words) where
@@ -254,7 +258,7 @@ module _ {grid : Grid} {a n m : ℕ} {ws words : List ℕ} (start : Countable gr
             λ k c.
             ap (λ (l : List ℕ). held-in l k) blanked
             ∙ blank .held k c
-            ∙ sym (gather-none n (combined a) (nothing a) (single grid a) (from (number-at ws₀) n k) (λ x b. from-out (number-at ws₀) n k x b));
+            ∙ sym (gather-none n (combined a) (nothing a) (seen grid a) (from (number-at ws₀) n k) (λ x b. from-out (number-at ws₀) n k x b));
       }
 
   owning-long : {ws' : List ℕ} {q : ℕ} → Owning grid a n m ws₀ ws' q → length ws' ≡ length ws
@@ -286,21 +290,19 @@ module _ {grid : Grid} {a n m : ℕ} {ws words : List ℕ} (start : Countable gr
     room : 3 * k + 2 < length (nodes n ws')
     room = omega (arith, nodes-long n ws' sized, within, start .few)
 
-    own-small : Small (single grid a q)
-    own-small = bound-one a (single grid a q) (single-small grid a q (start .short q b))
+    own-small : Small (seen grid a q)
+    own-small = seen-small grid a q (start .short q b)
 
     held-small : Small (held-in (nodes n ws') k)
     held-small =
-        rw
-        (O .held k within)
-        (bound-small
-        a
-        n
-        _
-        (start .sized .small)
-        (gathered-small a n (single grid a) _ (λ x c. single-small grid a x (start .short x c))))
+        rw (O .held k within) (gathered-small a n (seen grid a) _ (λ x c. seen-small grid a x (start .short x c)))
 
-    pub gather-asked : {own : ℕ} → own ≡ single grid a q → Gatherable q (number-at ws' q) own (nodes n ws')
+    -- one pixel more does not reach beyond the top threshold
+    sum-capped : Capped a (held-in (nodes n ws') k + seen grid a q)
+    sum-capped area =
+        omega (arith, O .held k within, gathered-area-le grid a area n (from (number-at ws₀) (q + 1) k) (start .sized .small), start .sized .small, seen-one grid a q area)
+
+    pub gather-asked : {own : ℕ} → own ≡ seen grid a q → Gatherable a q (number-at ws' q) own (nodes n ws')
     gather-asked e =
         rw number-is
         (record {
@@ -308,12 +310,13 @@ module _ {grid : Grid} {a n m : ℕ} {ws words : List ℕ} (start : Countable gr
           pixel = omega (arith, b, start .sized .small);
           small = held-small;
           small-own = rw e own-small;
+          capped = rw e sum-capped;
         })
 
-    pub owning-more : {own : ℕ} {words' : List ℕ} → own ≡ single grid a q → words' ≡ gathered-at a q (number-at ws' q) own (nodes n ws') → Owning grid a n m ws₀ (returned (3 * n) (6 * n) ws' words') q
+    pub owning-more : {own : ℕ} {words' : List ℕ} → own ≡ seen grid a q → words' ≡ gathered-at a q (number-at ws' q) own (nodes n ws') → Owning grid a n m ws₀ (returned (3 * n) (6 * n) ws' words') q
     owning-more {own} {words'} e f =
-        let words₁ : List ℕ = gathered-at a q k (single grid a q) (nodes n ws') in
-        let S = node-stored m (nodes n ws') k q (combined a (held-in (nodes n ws') k) (single grid a q)) room in
+        let words₁ : List ℕ = gathered-at a q k (seen grid a q) (nodes n ws') in
+        let S = node-stored m (nodes n ws') k q (combined a (held-in (nodes n ws') k) (seen grid a q)) room in
         let after : nodes n (returned (3 * n) (6 * n) ws' words₁) ≡ words₁ = back-nodes n ws' sized words₁ (S .long) in
         rw
         (f, e, number-is)
@@ -325,10 +328,16 @@ module _ {grid : Grid} {a n m : ℕ} {ws words : List ℕ} (start : Countable gr
           lowest = rw after (least-next n m q (number-at ws₀) (lowest-in (nodes n ws')) (lowest-in words₁) (O .lowest) (S .lowest));
           held =
               rw after
-              (gathered-next a n m q (single grid a) (number-at ws₀) (held-in (nodes n ws')) (held-in words₁) b (O .held) within (S .held));
+              (gathered-next a n m q (seen grid a) (number-at ws₀) (held-in (nodes n ws')) (held-in words₁) b (seen-capped grid a q) (O .held) within (S .held));
         })
 
-  pub owning-end : {ws' : List ℕ} {q : ℕ} → q ≤ 0 → Owning grid a n m ws₀ ws' q → Owned grid a n m ws ws'
+  -- the words of the nodes by what is seen
+  record Seen (ws' : List ℕ) : Type 0 where
+    kept : Kept n m ws ws'
+    lowest : (k : ℕ) → k < m → lowest-of n ws' k ≡ first-in n (numbered ws k)
+    held : (k : ℕ) → k < m → held-of n ws' k ≡ gathered a n (seen grid a) (numbered ws k)
+
+  owning-end : {ws' : List ℕ} {q : ℕ} → q ≤ 0 → Owning grid a n m ws₀ ws' q → Seen ws'
   owning-end {ws'} none taken =
       let O : Owning grid a n m ws₀ ws' 0 = subst (λ (i : ℕ). Owning grid a n m ws₀ ws' i) (omega arith) taken in
       let long : length ws' ≡ words-a-pixel * n = owning-long O ∙ start .sized .words in
@@ -357,6 +366,39 @@ module _ {grid : Grid} {a n m : ℕ} {ws words : List ℕ} (start : Countable gr
             λ k c.
             sym (held-read n ws' long k (node k c))
             ∙ O .held k c
-            ∙ gather-ext n (combined a) (nothing a) (single grid a) (from (number-at ws₀) 0 k) (numbered ws k)
+            ∙ gather-ext n (combined a) (nothing a) (seen grid a) (from (number-at ws₀) 0 k) (numbered ws k)
             (λ x b. from-first (number-at ws₀) k x ∙ same k x b);
       }
+
+  -- the pass over the frame
+  module _ {ws' : List ℕ} {q : ℕ} (none : q ≤ 0) (taken : Owning grid a n m ws₀ ws' q) where
+    S : Seen ws'
+    S = owning-end none taken
+
+    pub frame-asked : Framable grid n ws'
+    frame-asked =
+        record {
+          sized = record { words = S .kept .words ∙ start .sized .words; small = start .sized .small };
+          whole = start .whole;
+          wide = start .wide;
+          high = start .high;
+          within = λ x b. omega (arith, S .kept .before x (omega arith), start .within x b, start .few);
+        }
+
+    pub framed-end : {ws'' : List ℕ} → Marked a n (on-frame grid) ws' ws'' → Owned grid a n m ws ws''
+    framed-end M =
+        record {
+          kept =
+              record {
+                words = M .words ∙ S .kept .words;
+                before = λ j b. M .before j b ∙ S .kept .before j b;
+                ups = λ k c. M .ups k ∙ S .kept .ups k c;
+              };
+          lowest = λ k c. M .lowests k ∙ S .lowest k c;
+          held =
+              λ k c.
+              let same : some-in n (λ (x : ℕ). numbered ws' k x && on-frame grid x) ≡ some-in n (λ (x : ℕ). numbered ws k x && on-frame grid x) =
+              some-in-ext n _ _ (λ x b. ap (λ (j : ℕ). eqb j k && on-frame grid x) (S .kept .before x (omega arith))) in
+              M .held k (omega (arith, start .few))
+              ∙ rw (same, S .held k c) (sym (gathered-framed grid a n (numbered ws k) (start .short)));
+        }

@@ -6,16 +6,19 @@ use lib.Dec.{eqb}
 use lib.ListN.{getD, length, set}
 use Rattle.sets.specs.Sets.{Positions}
 use Rattle.sets.specs.Gather.{first-in}
+use Rattle.grid.specs.Pixels.{pixels}
 use Rattle.grid.specs.declared.Grid.{Grid}
 use Rattle.causes.specs.Bounds.{most-pixels}
 use Rattle.levels.specs.Workspace.{Sized, number-at, numbered, lowest-of, up-of, held-of}
-use Rattle.accumulators.specs.Accumulators.{nothing, single, combined, gathered, Small, Short}
+use Rattle.accumulators.specs.Accumulators.{nothing, single, combined, gathered, Small, Capped, Short}
 
--- each of n pixels has the number of one of m nodes, each node has a pixel, and rows and columns are short
+-- each of the n pixels of the grid has the number of one of m nodes, each node has a pixel, and rows and columns are short
 pub record Countable (grid : Grid) (a n m : ℕ) (ws : List ℕ) : Type 0 where
   pub sized : Sized n ws
   pub few : m ≤ n
+  pub whole : n ≡ pixels grid
   pub wide : 0 < grid .width
+  pub high : 0 < grid .height
   pub short : (q : ℕ) → q < n → Short grid a q
   pub within : (q : ℕ) → q < n → number-at ws q < m
   pub some : (k : ℕ) → k < m → (q : ℕ) × (q < n) × (number-at ws q ≡ k)
@@ -32,12 +35,13 @@ pub record Blank (a m : ℕ) (words words' : List ℕ) : Type 0 where
   pub ups : (k : ℕ) → getD words' (3 * k + 1) 0 ≡ getD words (3 * k + 1) 0
   pub held : (k : ℕ) → k < m → getD words' (3 * k + 2) 0 ≡ nothing a
 
--- the words of the nodes hold those of the node k; its accumulator and that of its own pixel q are small
-pub record Gatherable (q k own : ℕ) (words : List ℕ) : Type 0 where
+-- the words of the nodes hold those of the node k; its accumulator and that of its own pixel q are small, their area is a set's
+pub record Gatherable (a q k own : ℕ) (words : List ℕ) : Type 0 where
   pub within : 3 * k + 2 < length words
   pub pixel : q < most-pixels
   pub small : Small (getD words (3 * k + 2) 0)
   pub small-own : Small own
+  pub capped : Capped a (getD words (3 * k + 2) 0 + own)
 
 -- the words of the nodes once the own pixel q, whose accumulator is given, is added to the node k
 abbrev pub gathered-at : ℕ → ℕ → ℕ → ℕ → List ℕ → List ℕ

@@ -19,18 +19,19 @@ fn blank(attribute: u32, nodes: usize, words: &mut [u32])
     }
 }
 
-// Adds the own pixel q, which is below those added before and whose accumulator is given, to the node k.
+// Adds the own pixel q, which is below those added before and whose accumulator is given, to the node k. No area reaches the top threshold
+// yet.
 fn gather(attribute: u32, q: usize, k: usize, own: u32, words: &mut [u32])
-    requires { ⌜ Gatherable q k own (now words) ⌝ }
+    requires { ⌜ Gatherable attribute q k own (now words) ⌝ }
     ensures { λ _. ⌜ now (words .exit) ≡ gathered-at attribute q k own (now (words .entry)) ⌝ }
 {
-    let held = accumulators::combine(attribute, words[3 * k + 2], own);
+    let held = accumulators::add(attribute, words[3 * k + 2], own);
     words[3 * k] = q as u32;
     words[3 * k + 2] = held;
 }
 
 // The lowest own pixel of each node, and the accumulator of its own pixels: one straight pass over the positions, from the last to the
-// first, so that the pixel noted last is the lowest.
+// first, so that the pixel noted last is the lowest, by what is seen; then the frame is noted.
 pub fn own_pixels(n: usize, grid: Grid, attribute: u32, nodes: usize, ws: &mut [u32])
     requires { ⌜ Countable grid attribute n nodes (now ws) ⌝ }
     ensures { λ _. ⌜ Owned grid attribute n nodes (now (ws .entry)) (now (ws .exit)) ⌝ }
@@ -43,4 +44,5 @@ pub fn own_pixels(n: usize, grid: Grid, attribute: u32, nodes: usize, ws: &mut [
         let own = accumulators::one(grid, attribute, q);
         gather(attribute, q, k, own, &mut ws[3 * n..6 * n]);
     }
+    frame::mark_frame(n, grid, attribute, ws);
 }

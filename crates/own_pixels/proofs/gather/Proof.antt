@@ -4,20 +4,20 @@ use borrow.Author.Needs.{needs}
 use Rattle.own_pixels.proofs.gather.Statement.{statement}
 use Rattle.own_pixels.proofs.gather.Tie as tie
 
-mul-combine : tie.Need-mul-combine
-mul-combine c = search needs
+mul-add : tie.Need-mul-add
+mul-add c = search needs
 
-add-combine : tie.Need-add-combine
-add-combine c = search needs
+add-add : tie.Need-add-add
+add-add c = search needs
 
-mul-combine-2 : tie.Need-mul-combine-2
-mul-combine-2 c = search needs
+mul-add-2 : tie.Need-mul-add-2
+mul-add-2 c = search needs
 
-slice-read-combine : tie.Need-slice-read-combine
-slice-read-combine c = search needs
+slice-read-add : tie.Need-slice-read-add
+slice-read-add c = search needs
 
-combine-requires : tie.Need-combine-requires
-combine-requires c κs = search needs
+add-requires : tie.Need-add-requires
+add-requires c κs = search needs
 
 cast-words : tie.Need-cast-words
 cast-words c = search needs
@@ -49,17 +49,17 @@ same-length c = search needs
 returns : tie.Need-returns
 returns c =
     let a = c .before .before .before .args in
-    gathered-one (a .attribute) (a .q) (a .k) (a .own) (a .words .now) _ (c .combine .ensures)
+    gathered-one (a .attribute) (a .q) (a .k) (a .own) (a .words .now) _ (c .add .ensures)
 
 pub gather-spec : {M : Type 1} → statement M
 gather-spec =
     tie.close
     (tie.spec
-    mul-combine
-    add-combine
-    mul-combine-2
-    slice-read-combine
-    combine-requires
+    mul-add
+    add-add
+    mul-add-2
+    slice-read-add
+    add-requires
     cast-words
     mul-words
     mul-words-2

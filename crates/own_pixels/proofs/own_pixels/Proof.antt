@@ -1,8 +1,8 @@
--- `own_pixels::own_pixels` meets its contract. Invariant: the words of each node hold what is gathered of its own pixels from q on. Measure:
--- the pixels below q. Assumes nothing.
+-- `own_pixels::own_pixels` meets its contract. Invariant: the words of each node hold what is seen of its own pixels from q on. Measure: the
+-- pixels below q. The frame is noted after the loop. Assumes nothing.
 use Prim.Native.Nat.{_-_}
 use native.Mathlib.Omega.{arith}
-use Rattle.own_pixels.proofs.OwnPixels.{Owning, owning-none, gather-asked, owning-more, owning-end}
+use Rattle.own_pixels.proofs.OwnPixels.{Owning, owning-none, gather-asked, owning-more, frame-asked, framed-end}
 use borrow.Author.Needs.{needs}
 use Rattle.own_pixels.proofs.own_pixels.Statement.{statement}
 use Rattle.own_pixels.proofs.own_pixels.Tie as tie
@@ -89,13 +89,26 @@ loop-again c =
     let at-blank = at-loop .before .before .before in
     owning-more (at-blank .before .before .before .pre) (at-blank .blank .ensures) (omega arith) (at-loop .loop .inv) (at-one .one .ensures) (c .before .before .gather .ensures)
 
+mark-frame-requires : tie.Need-mark-frame-requires Inv-loop μ-loop
+mark-frame-requires c κs =
+    let at-loop = c .before .before in
+    let at-blank = at-loop .before .before .before in
+    frame-asked (at-blank .before .before .before .pre) (at-blank .blank .ensures) (omega arith) (at-loop .loop .inv)
+
 same-length : tie.Need-same-length Inv-loop μ-loop
 same-length c = search needs
 
 returns : tie.Need-returns Inv-loop μ-loop
 returns c =
-    let at-blank = c .before .before .before .before in
-    owning-end (at-blank .before .before .before .pre) (at-blank .blank .ensures) (omega arith) (c .before .loop .inv)
+    let at-frame = c .before .before in
+    let at-loop = at-frame .before .before .before in
+    let at-blank = at-loop .before .before .before in
+    framed-end
+    (at-blank .before .before .before .pre)
+    (at-blank .blank .ensures)
+    (omega arith)
+    (at-loop .loop .inv)
+    (at-frame .mark-frame .ensures)
 
 pub own-pixels-spec : {M : Type 1} → statement M
 own-pixels-spec =
@@ -125,5 +138,6 @@ own-pixels-spec =
     gather-requires
     loop-less
     loop-again
+    mark-frame-requires
     same-length
     returns)
