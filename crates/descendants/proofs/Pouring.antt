@@ -23,7 +23,7 @@ use Rattle.levels.specs.Workspace.{closed-of, lowest-of, up-of, held-of}
 use Rattle.levels.proofs.Counts.{equal-or-not}
 use Rattle.flooding.specs.Numbers.{Numbered, parent-by}
 use Rattle.accumulators.specs.Accumulators.{nothing, combined, measured, gathered, Small}
-use Rattle.accumulators.proofs.Accumulators.{gathered-small, bound-small, gathered-union}
+use Rattle.accumulators.proofs.Accumulators.{gathered-small, gathered-union}
 use Rattle.branches.specs.Branches.{branch, poured}
 use Rattle.branches.proofs.Branches.{poured-all, poured-none, poured-own, poured-other, poured-apart, poured-more}
 use Rattle.numbers.proofs.Numbers.{number-forest, parent-first, root-first, first-apart, number-owned}
@@ -348,7 +348,7 @@ module _ {a : ℕ} {picture ws₀ : List ℕ} {m : ℕ} (start : Pourable a pict
   small j c out =
       rw
       (waiting j c out)
-      (bound-small a n _ (start .sized .small) (gathered-small a n (start .value) _ (start .small)))
+      (gathered-small a n (start .value) _ (start .small))
 
   small-node : Small (held-of n ws k)
   small-node = small k k-within (shut-not (start .numbered) i b)

@@ -10,7 +10,7 @@ use Rattle.connected.specs.Component.{Adjacency, Symmetric}
 use Rattle.levels.specs.Levels.{grey}
 use Rattle.levels.specs.Workspace.{Sized, number-at, closed-of, drop-of, lowest-of, up-of, held-of}
 use Rattle.flooding.specs.Numbers.{Numbered, parent-by}
-use Rattle.accumulators.specs.Accumulators.{combined, measured, gathered, Small, bound, In-order}
+use Rattle.accumulators.specs.Accumulators.{combined, measured, gathered, Small, In-order}
 use Rattle.branches.specs.Branches.{branch}
 
 -- where the accumulator of the node k stands among the words of the nodes, and what it is
@@ -48,7 +48,7 @@ pub record Pourable (a : ℕ) (picture ws : List ℕ) (m : ℕ) : Type 0 where
       let n = length picture in
       Numbered n adj (grey picture) (number-at ws) (up-of n ws) (closed-of n ws) (drop-of n ws) m
   pub value : ℕ → ℕ
-  pub small : (q : ℕ) → q < length picture → value q ≤ bound a 1
+  pub small : (q : ℕ) → q < length picture → Small (value q)
   pub ends :
       (s : Positions) (q : ℕ) → q < length picture → s q ≡ true → In-order a (gathered a (length picture) value s)
   pub own :

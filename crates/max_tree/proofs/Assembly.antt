@@ -102,7 +102,9 @@ module _ {grid : Grid} {a : ℕ} {picture ws : List ℕ} {m : ℕ} (F : Flood-le
       record {
         sized = F .fitted .sized;
         few = F .numbers .few;
+        whole = F .fitted .bytes;
         wide = F .fitted .fits .wide;
+        high = F .fitted .fits .high;
         short = short (F .fitted) a;
         within = F .numbers .within;
         some = λ k b. (F .numbers .first k, F .numbers .first-within k b, F .numbers .first-own k b);
@@ -247,6 +249,7 @@ module _ {grid : Grid} {a : ℕ} {picture ws : List ℕ} {m : ℕ} (O : Own-left
           c
           (level-self n adj g (g p) p c (le-refl (g p)))
           (short (O .flood .fitted) a)
+          (O .flood .fitted .sized .small)
           (O .flood .fitted .bytes)
 
     nodes-left : NodesOf grid a picture ws' m
