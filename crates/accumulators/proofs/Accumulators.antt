@@ -7,7 +7,7 @@ use mathlib.Core.Path.{_≡_, refl, sym, ap, _∙_}
 use native.Mathlib.Nat.{le-antisymm}
 use native.Mathlib.Omega.{arith}
 use lib.Dec.{eqb}
-use borrow.Author.Tests.{eqb-true, lt-leb}
+use borrow.Author.Tests.{eqb-true, lt-ltb}
 use Rattle.sets.specs.Sets.{Positions, some-in, count}
 use Rattle.sets.specs.Gather.{gather, least, greatest}
 use Rattle.sets.proofs.Tests.{decided, clash, is-false}
@@ -292,7 +292,7 @@ module _ (grid : Grid) (a n : ℕ) (s : Positions) (q : ℕ) (b : q < n) (i : s 
       let l : ℕ = least n (side (grid .width) a) s in
       let g : ℕ = greatest n (side (grid .width) a) s in
       rw
-      (ends e, e, packed-first g l least-small, packed-last g l least-small, lt-leb longest-side g greatest-small)
+      (ends e, e, packed-first g l least-small, packed-last g l least-small, lt-ltb g longest-side greatest-small)
       (sym (extent-ends n (side (grid .width) a) s (some-in-intro n s q b i)))
 
   measured-count : n ≤ most-pixels → eqb a 1 ≡ true → measured a (gathered a n (seen grid a) s) ≡ count n s

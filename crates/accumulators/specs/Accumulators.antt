@@ -4,7 +4,7 @@
 use Prim.Native.Nat.{ℕ, _+_, _-_, _*_, _/_, _%_, _≤_, _<_, min, max}
 use mathlib.Core.Bool.{true, false, cond}
 use mathlib.Core.Path.{_≡_}
-use lib.Dec.{eqb, leb}
+use lib.Dec.{eqb, ltb}
 use Rattle.sets.specs.Sets.{Positions}
 use Rattle.sets.specs.Gather.{gather}
 use Rattle.grid.specs.Attributes.{side, on-frame}
@@ -42,7 +42,7 @@ combined a x y =
 -- the attribute
 unfoldable pub measured : ℕ → ℕ → ℕ
 measured a x =
-    cond (eqb a 1) x (cond (leb longest-side (x / longest-side)) top-threshold (x / longest-side - x % longest-side + 1))
+    cond (eqb a 1) x (cond (ltb (x / longest-side) longest-side) (x / longest-side - x % longest-side + 1) top-threshold)
 
 -- the accumulator of s, whose pixels have the accumulators v
 abbrev pub gathered : ℕ → ℕ → (ℕ → ℕ) → Positions → ℕ

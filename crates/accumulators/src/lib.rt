@@ -104,8 +104,8 @@ pub fn measure(attribute: u32, x: u32) -> u32
     if attribute == 1 {
         return x;
     }
-    if causes::LONGEST_SIDE <= x / causes::LONGEST_SIDE {
-        return causes::TOP_THRESHOLD;
+    if x / causes::LONGEST_SIDE < causes::LONGEST_SIDE {
+        return x / causes::LONGEST_SIDE - x % causes::LONGEST_SIDE + 1;
     }
-    x / causes::LONGEST_SIDE - x % causes::LONGEST_SIDE + 1
+    causes::TOP_THRESHOLD
 }

@@ -4,6 +4,20 @@ use borrow.Author.Needs.{needs}
 use Rattle.frame.proofs.mark_frame.Statement.{statement}
 use Rattle.frame.proofs.mark_frame.Tie as tie
 
+returns : tie.Need-returns
+returns c =
+    let four = c .before .before in
+    let three = four .before .before .before .before in
+    let two = three .before .before .before .before in
+    let one = two .before .before .before .before in
+    let start = one .before .before .before .before .before in
+    framed-all
+    (start .pre)
+    (one .mark-run .ensures)
+    (two .mark-run2 .ensures)
+    (three .mark-run3 .ensures)
+    (four .mark-run4 .ensures)
+
 cast-width : tie.Need-cast-width
 cast-width c = search needs
 
@@ -45,20 +59,6 @@ mark-run-requires-4 c κs =
 
 same-length : tie.Need-same-length
 same-length c = search needs
-
-returns : tie.Need-returns
-returns c =
-    let four = c .before .before in
-    let three = four .before .before .before .before in
-    let two = three .before .before .before .before in
-    let one = two .before .before .before .before in
-    let start = one .before .before .before .before .before in
-    framed-all
-    (start .pre)
-    (one .mark-run .ensures)
-    (two .mark-run2 .ensures)
-    (three .mark-run3 .ensures)
-    (four .mark-run4 .ensures)
 
 pub mark-frame-spec : {M : Type 1} → statement M
 mark-frame-spec =

@@ -13,6 +13,11 @@ Inv-loop n attribute from step count ws₀ i₀ ws i = Marking attribute n from 
 abbrev μ-loop : tie.MeasureT-loop
 μ-loop n attribute from step count ws₀ i₀ ws i = count - i
 
+loop-again : tie.Need-loop-again Inv-loop μ-loop
+loop-again c =
+    let at-loop = c .before .before .before .before .before in
+    marking-more (at-loop .before .before .pre) (at-loop .loop .inv) (omega arith) (c .before .before .mark-node .ensures)
+
 loop-holds : tie.Need-loop-holds Inv-loop μ-loop
 loop-holds c = marking-none _
 
@@ -36,11 +41,6 @@ add-i c = search needs
 
 loop-less : tie.Need-loop-less Inv-loop μ-loop
 loop-less c = search needs
-
-loop-again : tie.Need-loop-again Inv-loop μ-loop
-loop-again c =
-    let at-loop = c .before .before .before .before .before in
-    marking-more (at-loop .before .before .pre) (at-loop .loop .inv) (omega arith) (c .before .before .mark-node .ensures)
 
 same-length : tie.Need-same-length Inv-loop μ-loop
 same-length c = search needs
