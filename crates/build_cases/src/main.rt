@@ -14,7 +14,7 @@ fn answer(built: calls::Built) {
 }
 
 fn left(workspace: &[u32]) {
-    if 160 < workspace.len() {
+    if 300 < workspace.len() {
         printing::number(b"\t words ", workspace.len() as u64);
         return;
     }

@@ -42,11 +42,11 @@ fn maps(
 
 // One line of the table: the name, the picture, the call's numbers and steps, and how many words, bytes and entries it is lent.
 fn case(line: &[u8]) {
-    let mut greys = [0u8; 5];
+    let mut greys = [0u8; 25];
     let mut thresholds = [0u32; 257];
-    let mut workspace = [7u32; 30];
-    let mut residue = [8u8; 5];
-    let mut index = [9u16; 5];
+    let mut workspace = [7u32; 150];
+    let mut residue = [8u8; 25];
+    let mut index = [9u16; 25];
     maps(
         table::field(line, 0),
         table::bytes(line, 1, &mut greys),
