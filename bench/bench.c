@@ -1,7 +1,8 @@
 /*
  * The library, the same flooding in C, and a union-find baseline, side by side on pictures of 1,048,576 pixels, and an earlier
- * library beside them where the benchmark is built with one. All must agree; times are printed and nothing is asked of them. A time
- * is the processor time of one call, the least of several, on memory that was touched before and is not cleared between calls.
+ * library beside them where the benchmark is built with one. All must agree but for that one, which may answer otherwise; times are
+ * printed and nothing is asked of them. A time is the processor time of one call, the least of several, on memory that was touched before
+ * and is not cleared between calls.
  *
  *   bench [area|height|width] [RUNS] [4|8]
  *
@@ -22,7 +23,7 @@ enum { CAMERA_SECONDS = 20 };
 
 enum { LIBRARY, FLOOD, UNION, EARLIER, WAYS };
 
-static const char *const ways[] = {"library", "flooding in C", "union-find in C", "the earlier library"};
+static const char *const ways[] = {"library", "flooding in C", "union-find in C"};
 static const char *const attributes[] = {"area", "height", "width"};
 
 /* How many of the ways run: the earlier library where it knows the neighbours named. */
@@ -95,7 +96,7 @@ static double run_picture(const char *name, uint32_t attribute, uint32_t neighbo
             }
     free(picture.greys);
     print_rows(name, count, times);
-    for (int way = 1; way < count; way++)
+    for (int way = 1; way < EARLIER; way++)
         if (!agree(&results[0], &results[way])) {
             printf("%s: library and %s differ\n", name, ways[way]);
             return -1;

@@ -6,7 +6,7 @@
 #include <stddef.h>
 #include <stdint.h>
 
-enum { AREA = 1, HEIGHT = 2, WIDTH = 3 };
+enum { AREA = 1, HEIGHT = 2, WIDTH = 3, FRAME = 1048577 };
 enum { BUILD, OPENING, MAP, PARTS };
 enum { STEPS = 256, THRESHOLD = 40, SIDE = 1024, PIXELS = SIDE * SIDE, KINDS = 6 };
 
@@ -73,7 +73,7 @@ map_fn flood_map, join_map;
 void small_places(const uint32_t *steps, size_t count, uint32_t small[256]);
 uint32_t outlasted(const uint32_t *steps, uint32_t count, uint32_t attribute);
 
-/* An accumulator is a count, or the last row (column) above the first, which is stored as 4,095 less it. */
+/* An accumulator is a count, or the last row (column) above the first, which is stored as 4,095 less it: here of what is seen of a pixel. */
 static inline uint32_t single(uint32_t attribute, uint32_t width, uint32_t p) {
     if (attribute == AREA)
         return 1;
@@ -81,7 +81,8 @@ static inline uint32_t single(uint32_t attribute, uint32_t width, uint32_t p) {
     return place << 12 | (4095 - place);
 }
 
-static inline uint32_t combine(uint32_t attribute, uint32_t a, uint32_t b) {
+/* The accumulator of what is seen of two sets. */
+static inline uint32_t add(uint32_t attribute, uint32_t a, uint32_t b) {
     if (attribute == AREA)
         return a + b;
     uint32_t last = a >> 12 > b >> 12 ? a >> 12 : b >> 12;
@@ -89,8 +90,19 @@ static inline uint32_t combine(uint32_t attribute, uint32_t a, uint32_t b) {
     return last << 12 | first;
 }
 
+/* The accumulator of a set with a pixel on the frame. */
+static inline uint32_t mark(uint32_t attribute, uint32_t a) { return attribute == AREA ? FRAME : 4096 << 12 | (a & 4095); }
+
+/* The accumulator of two sets, on the frame or not. */
+static inline uint32_t combine(uint32_t attribute, uint32_t a, uint32_t b) {
+    uint32_t both = add(attribute, a, b);
+    return attribute == AREA && both > FRAME ? FRAME : both;
+}
+
 static inline uint32_t measure(uint32_t attribute, uint32_t word) {
-    return attribute == AREA ? word : (word >> 12) - (4095 - (word & 4095)) + 1;
+    if (attribute == AREA)
+        return word;
+    return word >> 12 < 4096 ? (word >> 12) - (4095 - (word & 4095)) + 1 : FRAME;
 }
 
 /* a where the test is 1, b where it is 0, without a branch */

@@ -1,14 +1,18 @@
 /*
- * Each call of the library once, on a row of five pixels: what a host in C lends, and what it finds afterwards. Prints the picture that
- * it reads, its tree, an opening, the maps, and a refusal. examples/run holds what is printed to calls.txt.
+ * Each call of the library once, on a row of five pixels in a ring, so that only the root touches the frame: what a host in C lends, and
+ * what it finds afterwards. Prints the picture that it reads, its tree, an opening, the maps, and a refusal. examples/run holds what is
+ * printed to calls.txt.
  */
 #include "teldruf.h"
 
 #include <stdio.h>
 
-enum { N = 5 };
+enum { N = 21 };
 
-static const uint8_t file[] = "P5\n5 1\n255\n\x0a\x1e\x14\x32\x0a";
+static const uint8_t file[] = "P5\n7 3\n255\n"
+                              "\x0a\x0a\x0a\x0a\x0a\x0a\x0a"
+                              "\x0a\x0a\x1e\x14\x32\x0a\x0a"
+                              "\x0a\x0a\x0a\x0a\x0a\x0a\x0a";
 
 static void bytes(const char *name, const uint8_t *entries, size_t count) {
     printf("%s", name);

@@ -26,20 +26,38 @@ FOLDER = sys.argv.pop(1)
 LIBRARY = os.path.join(FOLDER, "libteldruf.so")
 HOSTS = [os.path.join(FOLDER, "host")], [sys.executable, os.path.join(HERE, "host.py"), LIBRARY]
 
-# A picture of one row, with its tree, an opening and maps by area at the steps 1 2 3 4, worked out by hand.
-GREYS = bytes([10, 30, 20, 50, 10])
-ROW = Picture(5, 1, 255, GREYS)
-FILE = b"P5\n5 1\n255\n" + GREYS
-PARENTS, ATTRIBUTES, NODES = [0, 2, 0, 2, 0], [5, 1, 3, 1, 0], 4
-OPENED_AT_2 = bytes([10, 20, 20, 20, 10])
-RESIDUE, INDEX = bytes([0, 10, 10, 30, 0]), [0, 4, 4, 2, 0]
+FRAME = 1048577  # the attribute of a node on the frame
 
-# Two bright pixels that share only a corner, and for each number of neighbours the tree, the opening at 2 and the maps at the step 2.
-CORNERS = Picture(2, 2, 255, bytes([9, 0, 0, 9]))
-CORNERS_FILE = b"P5\n2 2\n255\n" + CORNERS.raster
+
+def ringed(value, *rows):
+    """Rows in a ring, one pixel wide, of a value."""
+    across = [value] * (len(rows[0]) + 2)
+    return across + [entry for row in rows for entry in [value, *row, value]] + across
+
+
+# A row in a ring, with its tree, an opening and maps by area at the steps 1 2 3 4, worked out by hand.
+GREYS = bytes(ringed(10, [10, 30, 20, 50, 10]))
+ROW = Picture(7, 3, 255, GREYS)
+FILE = b"P5\n7 3\n255\n" + GREYS
+PARENTS, ATTRIBUTES, NODES = ringed(0, [0, 10, 0, 10, 0]), [FRAME] + ringed(0, [0, 1, 3, 1, 0])[1:], 4
+OPENED_AT_2 = bytes(ringed(10, [10, 20, 20, 20, 10]))
+RESIDUE, INDEX = bytes(ringed(0, [0, 10, 10, 30, 0])), ringed(0, [0, 4, 4, 2, 0])
+
+# Two bright pixels that share only a corner, in a ring, and for each number of neighbours the tree, the opening at 2 and the maps at the
+# step 2.
+CORNERS = Picture(4, 4, 255, bytes(ringed(0, [9, 0], [0, 9])))
+CORNERS_FILE = b"P5\n4 4\n255\n" + CORNERS.raster
 BY_NEIGHBOURS = {
-    4: ((3, [1, 1, 1, 1], [1, 4, 0, 1]), bytes(4), (bytes([9, 0, 0, 9]), [1, 0, 0, 1])),
-    8: ((2, [1, 1, 1, 0], [2, 4, 0, 0]), bytes([9, 0, 0, 9]), (bytes(4), [0, 0, 0, 0])),
+    4: (
+        (3, [0] * 16, [FRAME] + ringed(0, [1, 0], [0, 1])[1:]),
+        bytes(16),
+        (bytes(ringed(0, [9, 0], [0, 9])), ringed(0, [1, 0], [0, 1])),
+    ),
+    8: (
+        (2, ringed(0, [0, 0], [0, 5]), [FRAME] + ringed(0, [2, 0], [0, 0])[1:]),
+        CORNERS.raster,
+        (bytes(16), [0] * 16),
+    ),
 }
 
 
@@ -47,7 +65,7 @@ class Module(unittest.TestCase):
     def test_each_call_on_each_kind_of_buffer(self):
         self.assertEqual(teldruf.read(FILE), ROW)
         self.assertEqual(teldruf.read(memoryview(bytearray(FILE))), ROW)
-        rows = memoryview(GREYS).cast("B", (1, 5))
+        rows = memoryview(GREYS).cast("B", (3, 7))
         for picture in ROW, ROW._replace(raster=bytearray(GREYS)), ROW._replace(raster=memoryview(GREYS)), rows:
             with self.subTest(type(getattr(picture, "raster", picture))):
                 self.assertEqual(teldruf.write(picture), FILE)
@@ -61,8 +79,17 @@ class Module(unittest.TestCase):
     def test_attributes_by_name_and_number(self):
         for name, number in teldruf.ATTRIBUTES.items():
             self.assertEqual(teldruf.map(ROW, [1, 2], name), teldruf.map(ROW, (1, 2), attribute=number))
-        self.assertEqual(teldruf.map(ROW, [1, 2], "height").residue, bytes([0, 20, 10, 40, 0]))
+        self.assertEqual(teldruf.map(ROW, [1, 2], "height").residue, bytes(ringed(0, [0, 20, 10, 40, 0])))
         self.assertEqual(list(teldruf.build(ROW, "width").attributes), ATTRIBUTES)
+
+    def test_the_frame_keeps_what_it_cuts(self):
+        for width, height in (5, 1), (1, 5):  # every pixel is on the frame
+            row = Picture(width, height, 255, bytes([10, 30, 20, 50, 10]))
+            for attribute in teldruf.ATTRIBUTES:
+                self.assertEqual(list(teldruf.build(row, attribute).attributes), [FRAME] * 4 + [0])
+                self.assertEqual(teldruf.open(row, FRAME, attribute), row)
+                maps = teldruf.map(row, [2, FRAME], attribute)
+                self.assertEqual((maps.residue, list(maps.index)), (bytes(5), [0] * 5))
 
     def test_corners_join_with_8_neighbours(self):
         for neighbours, (tree, opened, maps) in BY_NEIGHBOURS.items():
@@ -142,19 +169,19 @@ class Module(unittest.TestCase):
 
     @unittest.skipIf(numpy is None, "numpy is not installed")
     def test_numpy_arrays_give_numpy_arrays(self):
-        row = numpy.frombuffer(GREYS, numpy.uint8).reshape(1, 5)
-        wide = numpy.zeros((2, 10), numpy.uint8)
+        row = numpy.frombuffer(GREYS, numpy.uint8).reshape(3, 7)
+        wide = numpy.zeros((6, 14), numpy.uint8)
         wide[::2, ::2] = row
-        for image in row, wide[::2, ::2], numpy.asfortranarray(row), Picture(5, 1, 255, row):
+        for image in row, wide[::2, ::2], numpy.asfortranarray(row), Picture(7, 3, 255, row):
             tree, maps = teldruf.build(image), teldruf.map(image, numpy.arange(1, 5))
             opened = teldruf.open(image, numpy.int64(2))
             opened = opened.raster if isinstance(opened, Picture) else opened
             for got, kind, expected in [(tree.parents, "uint32", PARENTS), (tree.attributes, "uint32", ATTRIBUTES),
                                         (opened, "uint8", list(OPENED_AT_2)), (maps.residue, "uint8", list(RESIDUE)),
                                         (maps.index, "uint16", INDEX)]:
-                self.assertEqual((got.dtype.name, got.tolist()), (kind, [expected]))
+                self.assertEqual((got.dtype.name, got.shape, got.ravel().tolist()), (kind, (3, 7), expected))
             self.assertEqual(teldruf.write(image), FILE)
-        self.assertEqual(teldruf.map(row.T, [6]).residue.shape, (5, 1))
+        self.assertEqual(teldruf.map(row.T, [6]).residue.shape, (7, 3))
         for bad in row.astype(float), row.astype(bool), row.astype("uint16"), row[0], numpy.array(3, numpy.uint8):
             with self.assertRaises(TypeError):
                 teldruf.map(bad, [1])
@@ -203,7 +230,7 @@ class Hosts(unittest.TestCase):
         for host in HOSTS:
             subprocess.run([*host, self.picture, *self.out, "area", "1", "2", "3", "4"], check=True)
             index = b"".join(i.to_bytes(2, "big") for i in INDEX)
-            self.assertEqual(self.contents(), [b"P5\n5 1\n255\n" + RESIDUE, b"P5\n5 1\n256\n" + index])
+            self.assertEqual(self.contents(), [b"P5\n7 3\n255\n" + RESIDUE, b"P5\n7 3\n256\n" + index])
 
     def test_corners_join_with_8_neighbours(self):
         picture = self.file("corners.pgm", CORNERS_FILE)
@@ -212,7 +239,7 @@ class Hosts(unittest.TestCase):
                 subprocess.run([*host, picture, *self.out, "area", *word, "2"], check=True)
                 residue, index = BY_NEIGHBOURS[neighbours][2]
                 index = b"".join(i.to_bytes(2, "big") for i in index)
-                self.assertEqual(self.contents(), [b"P5\n2 2\n255\n" + residue, b"P5\n2 2\n256\n" + index])
+                self.assertEqual(self.contents(), [b"P5\n4 4\n255\n" + residue, b"P5\n4 4\n256\n" + index])
 
     def test_hosts_agree_on_a_basin_with_8_neighbours(self):
         found = []
@@ -225,11 +252,11 @@ class Hosts(unittest.TestCase):
         self.assertTrue(all(four != eight for four, eight in zip(*found[:2])))
 
     def test_every_index_is_kept(self):
-        picture = self.file("long.pgm", b"P5 258 1 9\n" + b"\0" + b"\x09" * 255 + b"\0\0")
+        picture = self.file("long.pgm", b"P5 258 3 9\n" + bytes(258) + b"\0" + b"\x09" * 255 + b"\0\0" + bytes(258))
         steps = [str(step) for step in range(1, 257)]
         for host in HOSTS:
             subprocess.run([*host, picture, *self.out, "area", *steps], check=True)
-            self.assertEqual(self.contents()[1], b"P5\n258 1\n256\n" + bytes(2) + b"\1\0" * 255 + bytes(4))
+            self.assertEqual(self.contents()[1], b"P5\n258 3\n256\n" + bytes(518) + b"\1\0" * 255 + bytes(520))
 
     def test_wrong_use(self):
         for word in "8x", "4294967304", "-1", "+8", "", " 8", "8 ", "0x8", "8.0", "99999999999999999999":
