@@ -15,11 +15,12 @@ use Rattle.sets.proofs.Tests.{clash, is-false, same-truth, and-left, and-right,
 use Rattle.grid.specs.Pixels.{pixels}
 use Rattle.grid.specs.Attributes.{on-frame}
 use Rattle.grid.specs.declared.Grid.{Grid}
-use Rattle.levels.specs.Workspace.{number-at, numbered, held-of}
+use Rattle.levels.specs.Workspace.{Sized, number-at, numbered, held-of}
 use Rattle.levels.proofs.Counts.{by-cases, equal-or-not}
+use Rattle.parts.proofs.Parts.{lent, returned, lent-long, lent-read, stored-in}
 use Rattle.accumulators.specs.Accumulators.{framed}
 use Rattle.accumulators.proofs.Accumulators.{framed-twice}
-use Rattle.frame.specs.Frame.{Numbered-pixel, marked-at, run, Markable, Marked}
+use Rattle.frame.specs.Frame.{node-marked, run, Markable, Marked}
 
 -- a set meets the union of two exactly if it meets one of them
 meets-either : (n : ℕ) (own s t u : Positions) → ((q : ℕ) → q < n → u q ≡ (s q || t q)) → some-in n (λ (q : ℕ). own q && u q) ≡ (some-in n (λ (q : ℕ). own q && s q) || some-in n (λ (q : ℕ). own q && t q))
@@ -93,8 +94,28 @@ marked-none {a} {n} {ws} s none =
           rw empty refl;
     }
 
+-- the pixel q has the number of a node
+record Numbered-pixel (n q : ℕ) (ws : List ℕ) : Type 0 where
+  sized : Sized n ws
+  pixel : q < n
+  node : number-at ws q < n
+
+-- the words once the node of q is marked
+abbrev marked-at : ℕ → ℕ → ℕ → List ℕ → List ℕ
+marked-at a n q ws = set ws (3 * n + 3 * number-at ws q + 2) (framed a (held-of n ws (number-at ws q)))
+
+-- so they are when the words of the nodes come back
+part-marked : (a : ℕ) {n q : ℕ} {ws : List ℕ} → Numbered-pixel n q ws → returned (3 * n) (6 * n) ws (node-marked a (number-at ws q) (lent (3 * n) (6 * n) ws)) ≡ marked-at a n q ws
+part-marked a {n} {q} {ws} P =
+    let k : ℕ = number-at ws q in
+    let high : 6 * n ≤ length ws = omega (arith, P .sized .words) in
+    let room : 3 * n + (3 * k + 2) < 6 * n = omega (arith, P .node) in
+    let at : 3 * n + (3 * k + 2) ≡ 3 * n + 3 * k + 2 = omega arith in
+    stored-in (3 * n) (6 * n) ws high (3 * k + 2) _ room
+    ∙ rw (lent-read (3 * n) (6 * n) ws high (3 * k + 2) room, at) refl
+
 -- one pixel q, whose node is marked
-pub marked-one : {a n : ℕ} {ws : List ℕ} (q : ℕ) → Numbered-pixel n q ws → Marked a n (eqb q) ws (marked-at a n q ws)
+marked-one : {a n : ℕ} {ws : List ℕ} (q : ℕ) → Numbered-pixel n q ws → Marked a n (eqb q) ws (marked-at a n q ws)
 marked-one {a} {n} {ws} q P =
     let j : ℕ = number-at ws q in
     let i : ℕ = 3 * n + 3 * j + 2 in
@@ -172,19 +193,28 @@ module _ {a n from step count : ℕ} {ws₀ ws : List ℕ} {i : ℕ} (start : Ma
   abbrev q : ℕ
   q = from + i * step
 
-  pub pixel-asked : Numbered-pixel n q ws
-  pixel-asked =
-      let inside : q < n = start .inside i left in
+  pub pixel : q < n
+  pixel = start .inside i left
+
+  asked : Numbered-pixel n q ws
+  asked =
       record {
         sized = record { words = M .marked .words ∙ start .sized .words; small = start .sized .small };
-        pixel = inside;
-        node = omega (arith, M .marked .before q (omega arith), start .within q inside);
+        pixel = pixel;
+        node = omega (arith, M .marked .before q (omega (arith, pixel)), start .within q pixel);
       }
 
-  pub marking-more : {ws' : List ℕ} → ws' ≡ marked-at a n q ws → Marking a n from step count ws₀ ws' (i + 1)
+  pub words-long : length ws ≡ 6 * n
+  words-long = asked .sized .words
+
+  pub node-within : 3 * number-at ws q + 2 < length (lent (3 * n) (6 * n) ws)
+  node-within = omega (arith, lent-long (3 * n) (6 * n) ws (omega (arith, words-long)), asked .node)
+
+  pub marking-more : {words : List ℕ} → words ≡ node-marked a (number-at ws q) (lent (3 * n) (6 * n) ws) → Marking a n from step count ws₀ (returned (3 * n) (6 * n) ws words) (i + 1)
   marking-more is =
-      rw is
+      rw
+      (is, part-marked a asked)
       (record {
         top = omega arith;
-        marked = marked-then (run from step (i + 1)) (M .marked) (marked-one q pixel-asked) (λ x b. run-more from step i x);
+        marked = marked-then (run from step (i + 1)) (M .marked) (marked-one q asked) (λ x b. run-more from step i x);
       })

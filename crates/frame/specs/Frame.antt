@@ -11,15 +11,9 @@ use Rattle.grid.specs.declared.Grid.{Grid}
 use Rattle.levels.specs.Workspace.{Sized, number-at, numbered, lowest-of, up-of, held-of}
 use Rattle.accumulators.specs.Accumulators.{framed}
 
--- the pixel q has the number of a node
-pub record Numbered-pixel (n q : ℕ) (ws : List ℕ) : Type 0 where
-  pub sized : Sized n ws
-  pub pixel : q < n
-  pub node : number-at ws q < n
-
--- the words once the accumulator of the node of q is marked
-abbrev pub marked-at : ℕ → ℕ → ℕ → List ℕ → List ℕ
-marked-at a n q ws = set ws (3 * n + 3 * number-at ws q + 2) (framed a (held-of n ws (number-at ws q)))
+-- the words of the nodes once the accumulator of the node k is marked
+abbrev pub node-marked : ℕ → ℕ → List ℕ → List ℕ
+node-marked a k words = set words (3 * k + 2) (framed a (getD words (3 * k + 2) 0))
 
 -- the pixels of a run: so many, each a step after the one before
 abbrev pub run : ℕ → ℕ → ℕ → Positions
