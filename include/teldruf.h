@@ -38,7 +38,10 @@ enum {
     TELDRUF_NEIGHBOURS = 17
 };
 
-/* Attributes of a connected set of pixels. */
+/*
+ * Attributes of a connected set of pixels. A set with a pixel in the first or last row or column may go on beyond the picture: each
+ * attribute of it is TELDRUF_MOST_THRESHOLD, the root's too, so that no threshold removes it.
+ */
 enum {
     TELDRUF_AREA = 1,   /* pixels */
     TELDRUF_HEIGHT = 2, /* lowest row less highest row, plus 1 */

@@ -5,6 +5,7 @@
     residue, index = teldruf.map(picture, [8, 16, 32, 64, 128])
 
 Neighbours are the 4 pixels that share an edge with a pixel; with neighbours=8 those that share a corner are neighbours too.
+What touches the first or last row or column has the size 1,048,577 by every attribute, so no threshold removes it.
 
 A picture is a Picture, whose raster is bytes or another buffer of bytes (bytearray, memoryview, numpy array of uint8), or a buffer
 of bytes with rows and columns, such as a numpy array of two dimensions. Results are bytes or arrays, row by row; where the greys
