@@ -48,8 +48,8 @@ module _ {n nodes : ℕ} {steps ws ws' : List ℕ} (prog : Settled-from n nodes 
   }
 
 -- on a grid the pass over the pixels leaves the maps
-module _ (grid : Grid) (a : ℕ) (picture : List ℕ) (wide : 1 ≤ grid .width) (few : pixels grid ≤ most-pixels) {nodes : ℕ} {steps ws ws' : List ℕ} (size : length picture ≡ pixels grid)
-    (rises : rising 0 steps ≡ true) (prog : Settled-from (length picture) nodes steps ws ws' 0)
+module _ (grid : Grid) (a : ℕ) (picture : List ℕ) (wide : 1 ≤ grid .width) (few : pixels grid ≤ most-pixels) {nodes : ℕ}
+    {steps ws ws' : List ℕ} (size : length picture ≡ pixels grid) (rises : rising 0 steps ≡ true) (prog : Settled-from (length picture) nodes steps ws ws' 0)
     (N : NodesOf grid a picture ws nodes) (bytes : (q : ℕ) → grey picture q < 256) where
   maps-grid : (table (length picture) (λ (q : ℕ). pair-at (length picture) ws' q % 256) ≡ residue-map grid a steps picture)
       × (table (length picture) (λ (q : ℕ). index-in (pair-at (length picture) ws' q)) ≡ index-map grid a steps picture)

@@ -35,7 +35,8 @@ pub record Blank (a m : ℕ) (words words' : List ℕ) : Type 0 where
   pub ups : (k : ℕ) → getD words' (3 * k + 1) 0 ≡ getD words (3 * k + 1) 0
   pub held : (k : ℕ) → k < m → getD words' (3 * k + 2) 0 ≡ nothing a
 
--- the words of the nodes hold those of the node k; its accumulator and that of its own pixel q are small, their area is a set's
+-- the words of the nodes hold those of the node k; its accumulator and that of its own pixel q are small, and as areas together no more than the
+-- top threshold
 pub record Gatherable (a q k own : ℕ) (words : List ℕ) : Type 0 where
   pub within : 3 * k + 2 < length words
   pub pixel : q < most-pixels

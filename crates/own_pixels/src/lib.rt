@@ -19,8 +19,8 @@ fn blank(attribute: u32, nodes: usize, words: &mut [u32])
     }
 }
 
-// Adds the own pixel q, which is below those added before and whose accumulator is given, to the node k. No area reaches the top threshold
-// yet.
+// Adds the own pixel q, which is below those added before and whose accumulator is given, to the node k. Before the frame is noted no area
+// goes beyond the top threshold.
 fn gather(attribute: u32, q: usize, k: usize, own: u32, words: &mut [u32])
     requires { ⌜ Gatherable attribute q k own (now words) ⌝ }
     ensures { λ _. ⌜ now (words .exit) ≡ gathered-at attribute q k own (now (words .entry)) ⌝ }
