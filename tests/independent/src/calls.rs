@@ -5,7 +5,7 @@ use crate::causes::{refusal, Named, MOST_STEPS, MOST_THRESHOLD, NEIGHBOURHOODS, 
 use crate::damage;
 use crate::definition::{Component, Levels, Picture, Record};
 use crate::fast::Forest;
-use crate::interface::{self, Frame};
+use crate::interface::{self, Numbers};
 use crate::lent::Lent;
 use crate::pictures;
 use crate::random::Random;
@@ -15,7 +15,7 @@ use crate::report::{answer_fault, refused, Report};
 #[derive(Clone, Debug)]
 pub struct Call {
     pub picture: Vec<u8>,
-    pub frame: Frame,
+    pub numbers: Numbers,
     pub steps: Vec<u32>,
     pub workspace: usize,
     pub outputs: [usize; 2],
@@ -24,7 +24,7 @@ pub struct Call {
 impl Call {
     pub fn good(picture: &Picture, attribute: u32, neighbours: u32, steps: Vec<u32>) -> Call {
         let n = picture.pixels();
-        let frame = Frame {
+        let numbers = Numbers {
             width: picture.width as u32,
             height: picture.height as u32,
             attribute,
@@ -32,7 +32,7 @@ impl Call {
         };
         Call {
             picture: picture.greys.clone(),
-            frame,
+            numbers,
             steps,
             workspace: 6 * n,
             outputs: [n, n],
@@ -41,11 +41,11 @@ impl Call {
 
     pub fn named<'a>(&'a self, steps: Option<&'a [u32]>, outputs: usize) -> Named<'a> {
         Named {
-            width: self.frame.width,
-            height: self.frame.height,
+            width: self.numbers.width,
+            height: self.numbers.height,
             picture: self.picture.len(),
-            attribute: self.frame.attribute,
-            neighbours: self.frame.neighbours,
+            attribute: self.numbers.attribute,
+            neighbours: self.numbers.neighbours,
             steps,
             workspace: self.workspace,
             outputs: &self.outputs[..outputs],
@@ -102,8 +102,8 @@ fn due(report: &mut Report, name: &'static str, due: Result<u64, u32>) -> u64 {
 pub fn check_build(report: &mut Report, random: &mut Random, call: &Call, truth: &dyn Truth) {
     let picture = Lent::holding(random, &call.picture);
     let mut workspace = Lent::dirty(random, call.workspace);
-    let answer = interface::build(picture.now(), call.frame, workspace.now_mut());
-    let outcome = refusal(&call.named(None, 0)).map(|()| truth.record(call.frame.attribute));
+    let answer = interface::build(picture.now(), call.numbers, workspace.now_mut());
+    let outcome = refusal(&call.named(None, 0)).map(|()| truth.record(call.numbers.attribute));
     let words = outcome.as_ref().ok().map(Record::workspace);
     let answer_due = due(
         report,
@@ -131,13 +131,13 @@ pub fn check_open(
     let mut output = Lent::dirty(random, call.outputs[0]);
     let answer = interface::open(
         picture.now(),
-        call.frame,
+        call.numbers,
         threshold,
         workspace.now_mut(),
         output.now_mut(),
     );
     let outcome = refusal(&call.named(Some(&[threshold]), 1));
-    let attribute = call.frame.attribute;
+    let attribute = call.numbers.attribute;
     let accepted = outcome.is_ok();
     let words = accepted.then(|| truth.record(attribute).workspace());
     let opened = accepted.then(|| truth.opening(attribute, threshold));
@@ -165,14 +165,14 @@ pub fn check_map(
     let mut index = Lent::dirty(random, call.outputs[1]);
     let answer = interface::map(
         picture.now(),
-        call.frame,
+        call.numbers,
         steps.now(),
         workspace.now_mut(),
         residue.now_mut(),
         index.now_mut(),
     );
     let outcome = refusal(&call.named(Some(&call.steps), 2));
-    let attribute = call.frame.attribute;
+    let attribute = call.numbers.attribute;
     let accepted = outcome.is_ok();
     let words = accepted.then(|| truth.record(attribute).workspace());
     let (largest, at) = accepted.then(|| truth.maps(attribute, &call.steps)).unzip();
@@ -192,8 +192,8 @@ pub fn check_map(
 pub fn shown(name: &str, call: &Call) -> String {
     if call.picture.len() > 400 {
         let (bytes, steps) = (call.picture.len(), call.steps.len());
-        let (frame, lent) = (call.frame, (call.workspace, call.outputs));
-        return format!("{name}: {bytes} bytes, {frame:?}, {steps} steps, lent {lent:?}");
+        let (numbers, lent) = (call.numbers, (call.workspace, call.outputs));
+        return format!("{name}: {bytes} bytes, {numbers:?}, {steps} steps, lent {lent:?}");
     }
     format!("{name}: {call:?}")
 }

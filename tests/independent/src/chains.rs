@@ -43,7 +43,7 @@ impl Chain {
     /// names none it is refused, and nothing is asked of the levels.
     fn call(&mut self, report: &mut Report, random: &mut Random, call: &Call) {
         let current = self.current();
-        let named = call.frame.neighbours;
+        let named = call.numbers.neighbours;
         let known = NEIGHBOURHOODS.contains(&named);
         let levels = Levels::of(&current, if known { named } else { 4 });
         let truth = ByDefinition {
@@ -71,13 +71,13 @@ impl Chain {
 fn bad_call(random: &mut Random, good: &Call) -> Call {
     loop {
         let mut call = good.clone();
-        call.frame.attribute = random.between(1, 3) as u32;
-        call.frame.neighbours = random.pick(&NEIGHBOURHOODS);
+        call.numbers.attribute = random.between(1, 3) as u32;
+        call.numbers.neighbours = random.pick(&NEIGHBOURHOODS);
         for _ in 0..random.between(1, 3) {
             match random.pick(&ORDER) {
                 2 => {
                     let n = call.picture.len();
-                    (call.frame.width, call.frame.height) = damage::other_sides(random, n);
+                    (call.numbers.width, call.numbers.height) = damage::other_sides(random, n);
                 }
                 cause => damage::apply(random, &mut call, cause),
             }

@@ -9,8 +9,8 @@ pub fn apply(random: &mut Random, call: &mut Call, cause: u32) {
     match cause {
         1 => sides(random, call),
         2 => picture(random, call),
-        3 => call.frame.attribute = wrong_attribute(random),
-        17 => call.frame.neighbours = wrong_neighbours(random),
+        3 => call.numbers.attribute = wrong_attribute(random),
+        17 => call.numbers.neighbours = wrong_neighbours(random),
         4 => steps(random, call),
         5 => call.workspace = other_length(random, call.workspace, call.picture.len()),
         _ => outputs(random, call),
@@ -68,10 +68,10 @@ pub fn wrong_sides(random: &mut Random) -> (u32, u32) {
 fn sides(random: &mut Random, call: &mut Call) {
     let wrong = random.pick(&[0, 4097, 4098, 65_536, 65_537, 1 << 31, u32::MAX]);
     match random.below(4) {
-        0 => call.frame.width = wrong,
-        1 => call.frame.height = wrong,
-        2 => call.frame.width |= random.pick(&[1 << 16, 1 << 30, 1 << 31]),
-        _ => (call.frame.width, call.frame.height) = wrong_sides(random),
+        0 => call.numbers.width = wrong,
+        1 => call.numbers.height = wrong,
+        2 => call.numbers.width |= random.pick(&[1 << 16, 1 << 30, 1 << 31]),
+        _ => (call.numbers.width, call.numbers.height) = wrong_sides(random),
     }
 }
 
@@ -101,7 +101,7 @@ fn picture(random: &mut Random, call: &mut Call) {
         let length = other_length(random, bytes, bytes / 2);
         call.picture.resize(length, grey);
     } else {
-        (call.frame.width, call.frame.height) = other_sides(random, bytes);
+        (call.numbers.width, call.numbers.height) = other_sides(random, bytes);
     }
 }
 

@@ -55,7 +55,7 @@ extern "C" {
 
 /// Width, height, attribute and number of neighbours as a call names them.
 #[derive(Clone, Copy, Debug)]
-pub struct Frame {
+pub struct Numbers {
     pub width: u32,
     pub height: u32,
     pub attribute: u32,
@@ -81,15 +81,15 @@ pub fn write_pgm(picture: &[u8], width: u32, height: u32, maximum: u32, buffer: 
     }
 }
 
-pub fn build(picture: &[u8], frame: Frame, workspace: &mut [u32]) -> u64 {
+pub fn build(picture: &[u8], numbers: Numbers, workspace: &mut [u32]) -> u64 {
     unsafe {
         teldruf_build(
             picture.as_ptr(),
             picture.len(),
-            frame.width,
-            frame.height,
-            frame.attribute,
-            frame.neighbours,
+            numbers.width,
+            numbers.height,
+            numbers.attribute,
+            numbers.neighbours,
             workspace.as_mut_ptr(),
             workspace.len(),
         )
@@ -98,7 +98,7 @@ pub fn build(picture: &[u8], frame: Frame, workspace: &mut [u32]) -> u64 {
 
 pub fn open(
     picture: &[u8],
-    frame: Frame,
+    numbers: Numbers,
     threshold: u32,
     workspace: &mut [u32],
     output: &mut [u8],
@@ -107,10 +107,10 @@ pub fn open(
         teldruf_open(
             picture.as_ptr(),
             picture.len(),
-            frame.width,
-            frame.height,
-            frame.attribute,
-            frame.neighbours,
+            numbers.width,
+            numbers.height,
+            numbers.attribute,
+            numbers.neighbours,
             threshold,
             workspace.as_mut_ptr(),
             workspace.len(),
@@ -122,7 +122,7 @@ pub fn open(
 
 pub fn map(
     picture: &[u8],
-    frame: Frame,
+    numbers: Numbers,
     steps: &[u32],
     workspace: &mut [u32],
     residue: &mut [u8],
@@ -132,10 +132,10 @@ pub fn map(
         teldruf_map(
             picture.as_ptr(),
             picture.len(),
-            frame.width,
-            frame.height,
-            frame.attribute,
-            frame.neighbours,
+            numbers.width,
+            numbers.height,
+            numbers.attribute,
+            numbers.neighbours,
             steps.as_ptr(),
             steps.len(),
             workspace.as_mut_ptr(),

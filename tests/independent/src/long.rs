@@ -42,7 +42,7 @@ fn due(report: &mut Report, name: &'static str, named: &Named) -> u64 {
 fn check_build(report: &mut Report, random: &mut Random, call: &Call, surplus: [usize; 2]) {
     let picture = Vast::holding(random, &call.picture, surplus[0]);
     let mut workspace = Vast::dirty(random, call.workspace, surplus[1]);
-    let answer = interface::build(picture.now(), call.frame, workspace.now_mut());
+    let answer = interface::build(picture.now(), call.numbers, workspace.now_mut());
     let named = Named {
         picture: picture.now().len(),
         workspace: workspace.now().len(),
@@ -64,7 +64,7 @@ fn check_open(report: &mut Report, random: &mut Random, call: &Call, surplus: [u
     let mut output = Vast::dirty(random, call.outputs[0], surplus[2]);
     let answer = interface::open(
         picture.now(),
-        call.frame,
+        call.numbers,
         call.steps[0],
         workspace.now_mut(),
         output.now_mut(),
@@ -94,7 +94,7 @@ fn check_map(report: &mut Report, random: &mut Random, call: &Call, surplus: [us
     let mut index = Vast::dirty(random, call.outputs[1], surplus[4]);
     let answer = interface::map(
         picture.now(),
-        call.frame,
+        call.numbers,
         steps.now(),
         workspace.now_mut(),
         residue.now_mut(),

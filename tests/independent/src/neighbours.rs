@@ -223,7 +223,7 @@ fn check_wrong(report: &mut Report, random: &mut Random) {
             for check in CHECKS {
                 let mut call = Call::good(&picture, AREA, number, vec![2, 3]);
                 damage::apply(random, &mut call, beside);
-                call.frame.neighbours = number;
+                call.numbers.neighbours = number;
                 check(report, random, &call, &truth);
             }
         }
