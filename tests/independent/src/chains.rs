@@ -13,6 +13,7 @@ use crate::definition::{is_leveling, largest_falls, Levels, Picture};
 use crate::pictures;
 use crate::random::Random;
 use crate::report::Report;
+use crate::table::rows;
 
 struct Chain {
     original: Picture,
@@ -199,16 +200,14 @@ fn check_chain(report: &mut Report, random: &mut Random, chain: &Chain) {
 /// A picture whose corner breaks off under 4: opened there it is no leveling under 8, and a list
 /// with this call is no chain under 8, where the single opening is another.
 fn check_corner(report: &mut Report, random: &mut Random) {
-    let picture = Picture {
-        width: 3,
-        height: 2,
-        greys: vec![9, 0, 0, 0, 5, 5],
-    };
+    let inside = rows(&[[9, 0, 0], [0, 5, 5]]);
+    let picture = pictures::in_ring(&inside);
     let cases = [
         (4, [0, 0, 0, 0, 5, 5], [true, false]),
         (8, [5, 0, 0, 0, 5, 5], [true, true]),
     ];
     for (neighbours, due, levelings) in cases {
+        let due = pictures::ring(inside.width, &due, 0);
         let levels = Levels::of(&picture, neighbours);
         let truth = ByDefinition {
             picture: &picture,
@@ -217,7 +216,7 @@ fn check_corner(report: &mut Report, random: &mut Random) {
         let call = Call::good(&picture, 1, neighbours, vec![2]);
         let opened = check_open(report, random, &call, &truth);
         let judged = NEIGHBOURHOODS.map(|by| is_leveling(&picture, by, &due));
-        let same = opened == Some(due.to_vec()) && judged == levelings;
+        let same = opened.as_ref() == Some(&due) && judged == levelings;
         let fault = (!same).then(|| format!("{opened:?}, a leveling under 4 and 8: {judged:?}"));
         report.check(fault, || format!("a corner, {neighbours} neighbours"));
     }

@@ -1,8 +1,12 @@
 // The scope, "Picture, nodes, openings", "Steps and maps" and "Tree record", word for word: level
-// sets, components by flood fill, nodes, representatives, parents, openings, residues. Nothing here
-// is meant to be fast. How many neighbours there are, 4 or 8, is named wherever it matters.
+// sets, components by flood fill, nodes, representatives, parents, openings, residues; and the
+// request on floc cut by the frame. Nothing here is meant to be fast. How many neighbours there
+// are, 4 or 8, is named wherever it matters.
 
 use crate::causes::NEIGHBOURHOODS;
+
+/// Each attribute of a set with a pixel in the first or last row or column. No threshold is above.
+pub const CUT: u32 = 1_048_577;
 
 #[derive(Clone, Debug)]
 pub struct Picture {
@@ -34,6 +38,13 @@ impl Picture {
         };
         places.filter(shares).map(move |(r, c)| r * width + c)
     }
+
+    /// Is p in the first or last row or column?
+    fn in_frame(&self, p: usize) -> bool {
+        let (row, column) = (p / self.width, p % self.width);
+        let (last_row, last_column) = (self.height - 1, self.width - 1);
+        row == 0 || row == last_row || column == 0 || column == last_column
+    }
 }
 
 /// A connected component of the level set at `level`, its pixels in order of position.
@@ -57,6 +68,7 @@ pub struct Levels {
     least: u8,
 }
 
+#[derive(PartialEq)]
 pub struct Record {
     pub parents: Vec<u32>,
     pub attributes: Vec<u32>,
@@ -104,16 +116,24 @@ fn extent(places: impl Iterator<Item = usize> + Clone) -> u32 {
     (last - first + 1) as u32
 }
 
-fn component(picture: &Picture, level: u8, pixels: Vec<usize>) -> Component {
+/// Area, height and width of a set of pixels. A node with a pixel in the first or last row or
+/// column has 1,048,577 for each attribute, the root too.
+fn attributes(picture: &Picture, pixels: &[usize]) -> [u32; 3] {
+    if pixels.iter().any(|p| picture.in_frame(*p)) {
+        return [CUT; 3];
+    }
     let rows = pixels.iter().map(|p| p / picture.width);
     let columns = pixels.iter().map(|p| p % picture.width);
-    let attributes = [pixels.len() as u32, extent(rows), extent(columns)];
+    [pixels.len() as u32, extent(rows), extent(columns)]
+}
+
+fn component(picture: &Picture, level: u8, pixels: Vec<usize>) -> Component {
     let is_own = |p: &usize| picture.greys[*p] == level;
     let own = pixels.iter().copied().filter(is_own).collect();
     Component {
         level,
+        attributes: attributes(picture, &pixels),
         pixels,
-        attributes,
         own,
     }
 }

@@ -1,19 +1,37 @@
-// Every picture of a few small shapes with a few greys, by every attribute and neighbourhood.
+// Every picture of a few small shapes with a few greys, by every attribute and neighbourhood: as it
+// stands, where most of it is frame, and set in a ring of either of the two darkest greys.
 
 use crate::calls::{check_build, check_map, check_open, ByDefinition, Call};
-use crate::causes::NEIGHBOURHOODS;
+use crate::causes::{MOST_THRESHOLD, NEIGHBOURHOODS};
 use crate::definition::{Levels, Picture};
+use crate::pictures::ringed;
 use crate::random::Random;
 use crate::report::Report;
 
 /// Width, height, and how many greys.
-const SHAPES: [(usize, usize, usize); 6] = [
-    (3, 3, 3),
-    (6, 1, 4),
-    (1, 6, 4),
-    (2, 3, 4),
+const SHAPES: [(usize, usize, usize); 11] = [
+    (1, 1, 4),
+    (6, 1, 3),
+    (1, 6, 3),
+    (2, 2, 4),
+    (2, 3, 3),
+    (3, 2, 3),
     (4, 2, 3),
+    (3, 3, 3),
+    (3, 4, 2),
+    (4, 3, 2),
     (5, 3, 2),
+];
+
+/// Those inside a ring.
+const INSIDES: [(usize, usize, usize); 7] = [
+    (5, 1, 3),
+    (1, 5, 3),
+    (2, 2, 4),
+    (2, 3, 3),
+    (4, 2, 2),
+    (2, 4, 2),
+    (3, 3, 3),
 ];
 
 /// Unevenly apart, so that falls differ.
@@ -34,16 +52,22 @@ fn picture((width, height, greys): (usize, usize, usize), number: usize) -> Pict
     }
 }
 
-fn check(report: &mut Report, random: &mut Random, picture: &Picture, neighbours: u32) {
+fn pixels(shape: (usize, usize, usize)) -> u32 {
+    (shape.0 * shape.1) as u32
+}
+
+/// No size that is visible is above `most`.
+fn check(report: &mut Report, random: &mut Random, picture: &Picture, neighbours: u32, most: u32) {
     let levels = Levels::of(picture, neighbours);
     let truth = ByDefinition {
         picture,
         levels: &levels,
     };
-    let most = picture.pixels() + 1;
+    let thresholds: Vec<u32> = (1..=most + 1).chain([MOST_THRESHOLD]).collect();
     for attribute in 1..=3 {
-        let steps: Vec<u32> = (1..=most as u32).filter(|_| random.chance(2, 3)).collect();
-        let single = random.between(1, most) as u32;
+        let mut steps = thresholds.clone();
+        steps.retain(|_| random.chance(2, 3));
+        let single = random.pick(&thresholds);
         let call = Call::good(picture, attribute, neighbours, vec![single]);
         check_build(report, random, &call, &truth);
         check_open(report, random, &call, &truth);
@@ -56,12 +80,21 @@ fn check(report: &mut Report, random: &mut Random, picture: &Picture, neighbours
 
 pub fn run(report: &mut Report, seed: u64) {
     let mut random = Random::for_case(seed, 7, 0);
-    for shape in SHAPES {
-        let total = shape.2.pow((shape.0 * shape.1) as u32);
-        for number in 0..total {
-            let picture = picture(shape, number);
-            for neighbours in NEIGHBOURHOODS {
-                check(report, &mut random, &picture, neighbours);
+    for neighbours in NEIGHBOURHOODS {
+        for shape in SHAPES {
+            let most = pixels(shape);
+            for number in 0..shape.2.pow(most) {
+                let picture = picture(shape, number);
+                check(report, &mut random, &picture, neighbours, most);
+            }
+        }
+        for shape in INSIDES {
+            let most = pixels(shape);
+            for number in 0..shape.2.pow(most) {
+                for grey in &GREYS[..2] {
+                    let picture = ringed(&picture(shape, number), *grey);
+                    check(report, &mut random, &picture, neighbours, most);
+                }
             }
         }
     }

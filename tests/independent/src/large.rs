@@ -1,28 +1,35 @@
-// A few large pictures, at the bounds of the sides and of n, against the fast implementation.
+// A few large pictures, at the bounds of the sides and of n, against the fast implementation: as
+// they stand, and set in a ring where otherwise the frame would cut all that is in them.
 
 use crate::calls::{check_build, check_map, check_open, Call};
 use crate::causes::NEIGHBOURHOODS;
 use crate::definition::Picture;
 use crate::fast::Forest;
-use crate::pictures::KINDS;
+use crate::pictures::{in_ring, KINDS};
 use crate::random::Random;
 use crate::report::Report;
 
-const SIZES: [(&str, usize, usize); 14] = [
+const SIZES: [(&str, usize, usize); 10] = [
     ("floc", 1024, 1024),
     ("noise", 1024, 1024),
-    ("ramp", 1024, 1024),
     ("checkerboard", 1024, 1024),
-    ("spiral", 1024, 1024),
     ("flat", 1024, 1024),
-    ("comb", 4096, 256),
     ("floc", 256, 4096),
     ("few greys", 4096, 255),
     ("noise", 1, 4096),
     ("noise", 4096, 1),
     ("bridges", 1000, 1001),
     ("diagonals", 1024, 1024),
+];
+
+/// Sides with the ring.
+const RINGED: [(&str, usize, usize); 6] = [
+    ("ramp", 1024, 1024),
+    ("spiral", 1024, 1024),
+    ("comb", 4096, 256),
     ("row ends", 255, 4096),
+    ("noise", 3, 4096),
+    ("noise", 4096, 3),
 ];
 
 fn picture(random: &mut Random, kind: &str, width: usize, height: usize) -> Picture {
@@ -73,6 +80,11 @@ pub fn run(report: &mut Report, seed: u64) {
     for (case, (kind, width, height)) in SIZES.into_iter().enumerate() {
         let mut random = Random::for_case(seed, 5, case as u64);
         let picture = picture(&mut random, kind, width, height);
+        check(report, &mut random, &picture, case);
+    }
+    for (case, (kind, width, height)) in (SIZES.len()..).zip(RINGED) {
+        let mut random = Random::for_case(seed, 5, case as u64);
+        let picture = in_ring(&picture(&mut random, kind, width - 2, height - 2));
         check(report, &mut random, &picture, case);
     }
 }

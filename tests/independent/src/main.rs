@@ -15,11 +15,13 @@ mod definition;
 mod every;
 mod fast;
 mod files;
+mod frame;
 mod interface;
 mod large;
 mod lent;
 mod long;
 mod neighbours;
+mod nest;
 mod pgm;
 mod pictures;
 mod program;
@@ -39,9 +41,10 @@ const FEWEST_CASES: usize = 1000;
 
 type Suite = fn(&mut Report, &Options);
 
-const SUITES: [(&str, Suite); 9] = [
+const SUITES: [(&str, Suite); 10] = [
     ("table", |r, o| table::run(r, o.seed)),
     ("neighbours", |r, o| neighbours::run(r, o.seed)),
+    ("frame", |r, o| frame::run(r, o.seed, o.cases / 10)),
     ("every", |r, o| every::run(r, o.seed)),
     ("calls", |r, o| calls::run(r, o.seed, o.cases)),
     ("chains", |r, o| chains::run(r, o.seed, o.cases / 4)),

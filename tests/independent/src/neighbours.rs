@@ -8,9 +8,9 @@ use crate::damage;
 use crate::definition::{Levels, Picture};
 use crate::random::Random;
 use crate::report::Report;
-use crate::table::{Table, AREA, HEIGHT, WIDTH};
+use crate::table::{rows, Table, AREA, HEIGHT, WIDTH};
 
-/// Width and height.
+/// Width and height; each is tried with a ring around it as well.
 const SHAPES: [(usize, usize); 18] = [
     (1, 1),
     (1, 2),
@@ -84,8 +84,9 @@ impl Pair {
         Pair { picture, at, greys }
     }
 
-    /// The opening at 2: of two neighbours that attain it together the darker grey is left, of
-    /// other pixels nothing.
+    /// The opening at 2. In the frame, where an edge has no neighbour, a pixel keeps its grey. Of
+    /// another the darker grey of the two is left if they are neighbours and attain 2 together, or
+    /// if they are and the other one is in the frame; else nothing.
     fn opened_at_2(&self, attribute: u32, number: u32) -> Vec<u8> {
         let (width, [p, q]) = (self.picture.width, self.at);
         let [rows, columns] = apart(width, p, q);
@@ -94,10 +95,15 @@ impl Pair {
             HEIGHT => rows == 1,
             _ => columns == 1,
         };
+        let joined = are_neighbours(width, p, q, number);
+        let in_frame = self.at.map(|p| self.picture.neighbours(p, 4).count() < 4);
         let mut opened = vec![self.picture.least(); self.picture.pixels()];
-        if are_neighbours(width, p, q, number) && enough {
-            let left = self.greys[0].min(self.greys[1]);
-            (opened[p], opened[q]) = (left, left);
+        for (this, other) in [(0, 1), (1, 0)] {
+            if in_frame[this] {
+                opened[self.at[this]] = self.greys[this];
+            } else if joined && (enough || in_frame[other]) {
+                opened[self.at[this]] = self.greys[this].min(self.greys[other]);
+            }
         }
         opened
     }
@@ -133,27 +139,19 @@ fn check_pairs(report: &mut Report, random: &mut Random, shape: (usize, usize), 
     }
 }
 
-fn rows<const COLUMNS: usize>(rows: &[[u8; COLUMNS]]) -> Picture {
-    Picture {
-        width: COLUMNS,
-        height: rows.len(),
-        greys: rows.concat(),
-    }
-}
-
 /// Three pixels along each of the two diagonals, joined with 8, each by itself with 4.
 fn diagonals(table: &mut Table) {
     let falling = rows(&[[5, 0, 0], [0, 7, 0], [0, 0, 6]]);
     let rising = rows(&[[0, 0, 5], [0, 7, 0], [6, 0, 0]]);
     let (falls, place) = if table.neighbours == 4 {
-        table.tree(&falling, &[1; 9], &[1, 9, 0, 0, 1, 0, 0, 0, 1], 4);
-        table.tree(&rising, &[0; 9], &[9, 0, 1, 0, 1, 0, 1, 0, 0], 4);
+        table.tree_inside(&falling, &[0; 9], &[1, 0, 0, 0, 1, 0, 0, 0, 1], 4);
+        table.tree_inside(&rising, &[0; 9], &[0, 0, 1, 0, 1, 0, 1, 0, 0], 4);
         ([5, 7, 6], 1)
     } else {
-        let parents = [1, 1, 1, 1, 8, 1, 1, 1, 0];
-        table.tree(&falling, &parents, &[3, 9, 0, 0, 1, 0, 0, 0, 2], 4);
-        let parents = [0, 0, 0, 0, 6, 0, 2, 0, 0];
-        table.tree(&rising, &parents, &[9, 0, 3, 0, 1, 0, 2, 0, 0], 4);
+        let parents = [0, 0, 0, 0, 18, 0, 0, 0, 6];
+        table.tree_inside(&falling, &parents, &[3, 0, 0, 0, 1, 0, 0, 0, 2], 4);
+        let parents = [0, 0, 0, 0, 16, 0, 8, 0, 0];
+        table.tree_inside(&rising, &parents, &[0, 0, 3, 0, 1, 0, 2, 0, 0], 4);
         ([5, 5, 5], 3)
     };
     for (picture, at) in [(falling, [0, 4, 8]), (rising, [2, 4, 6])] {
@@ -162,7 +160,7 @@ fn diagonals(table: &mut Table) {
             (residue[p], index[p]) = (fall, place);
         }
         for attribute in [AREA, HEIGHT, WIDTH] {
-            table.maps(&picture, (attribute, &[2, 3, 4]), &residue, &index);
+            table.maps_inside(&picture, (attribute, &[2, 3, 4]), &residue, &index);
         }
     }
 }
@@ -186,27 +184,33 @@ fn corners(table: &mut Table) {
                 }
                 let place = |fall: &u8| if *fall > 0 { size as u16 + 1 } else { 0 };
                 let index: Vec<u16> = residue.iter().map(place).collect();
-                table.maps(&picture, (attribute, &steps), &residue, &index);
+                table.maps_inside(&picture, (attribute, &steps), &residue, &index);
             }
         }
     }
 }
 
-/// The end of a row and the start of another lie apart, and one row or column has no corners.
+/// The end of a row and the start of another lie apart, and one row or column has no corners. As
+/// they stand the frame cuts all nodes of these pictures, in a ring none but the root.
 fn same_with_both(table: &mut Table) {
     let columns = rows(&[[9, 0, 8], [9, 0, 8], [9, 0, 8]]);
-    let parents = [1, 1, 1, 0, 1, 2, 0, 1, 2];
-    table.tree(&columns, &parents, &[3, 9, 3, 0, 0, 0, 0, 0, 0], 3);
+    table.tree_cut(&columns, &[1, 1, 1, 0, 1, 2, 0, 1, 2], &[0, 1, 2]);
+    let parents = [0, 0, 0, 6, 0, 8, 6, 0, 8];
+    table.tree_inside(&columns, &parents, &[3, 0, 3, 0, 0, 0, 0, 0, 0], 3);
     let ends = rows(&[[0, 0, 9], [9, 0, 0], [9, 0, 0]]);
-    let parents = [0, 0, 0, 0, 0, 0, 3, 0, 0];
-    table.tree(&ends, &parents, &[9, 0, 1, 2, 0, 0, 0, 0, 0], 3);
+    table.tree_cut(&ends, &[0, 0, 0, 0, 0, 0, 3, 0, 0], &[0, 2, 3]);
+    let parents = [0, 0, 0, 0, 0, 0, 11, 0, 0];
+    table.tree_inside(&ends, &parents, &[0, 0, 1, 2, 0, 0, 0, 0, 0], 3);
     let hook = rows(&[[9, 9, 9], [0, 0, 9], [9, 0, 9]]);
-    let parents = [3, 0, 0, 3, 3, 0, 3, 3, 0];
-    table.tree(&hook, &parents, &[5, 0, 0, 9, 0, 0, 1, 0, 0], 3);
+    table.tree_cut(&hook, &[3, 0, 0, 3, 3, 0, 3, 3, 0], &[0, 3, 6]);
+    let parents = [0, 6, 6, 0, 0, 6, 0, 0, 6];
+    table.tree_inside(&hook, &parents, &[5, 0, 0, 0, 0, 0, 1, 0, 0], 3);
     let column = rows(&[[9], [0], [9], [0], [7]]);
-    table.tree(&column, &[1, 1, 1, 1, 1], &[1, 5, 1, 0, 1], 4);
+    table.tree_cut(&column, &[1; 5], &[0, 1, 2, 4]);
+    table.tree_inside(&column, &[0; 5], &[1, 0, 1, 0, 1], 4);
     let row = rows(&[[9, 0, 9, 0, 7]]);
-    table.tree(&row, &[1, 1, 1, 1, 1], &[1, 5, 1, 0, 1], 4);
+    table.tree_cut(&row, &[1; 5], &[0, 1, 2, 4]);
+    table.tree_inside(&row, &[0; 5], &[1, 0, 1, 0, 1], 4);
 }
 
 /// Numbers that are neither 4 nor 8, each alone, which is beside 17, and beside each other cause.
@@ -233,9 +237,11 @@ fn check_wrong(report: &mut Report, random: &mut Random) {
 pub fn run(report: &mut Report, seed: u64) {
     let mut random = Random::for_case(seed, 9, 0);
     for neighbours in NEIGHBOURHOODS {
-        for shape in SHAPES {
-            check_rule(report, shape, neighbours);
-            check_pairs(report, &mut random, shape, neighbours);
+        for (width, height) in SHAPES {
+            for shape in [(width, height), (width + 2, height + 2)] {
+                check_rule(report, shape, neighbours);
+                check_pairs(report, &mut random, shape, neighbours);
+            }
         }
         let mut table = Table {
             report,

@@ -1,4 +1,4 @@
-// Pictures of many kinds, any size.
+// Pictures of many kinds, any size, and pictures set in a ring.
 
 use crate::definition::Picture;
 use crate::random::Random;
@@ -25,7 +25,33 @@ pub const KINDS: [(&str, Maker); 17] = [
     ("row ends", row_ends),
 ];
 
-fn by_place(width: usize, height: usize, mut grey: impl FnMut(usize, usize) -> u8) -> Vec<u8> {
+/// What stands in rows of this width, set in a ring, one entry wide.
+pub fn ring<T: Copy>(width: usize, inside: &[T], around: T) -> Vec<T> {
+    let end = vec![around; width + 2];
+    let mut entries = end.clone();
+    for row in inside.chunks(width) {
+        entries.push(around);
+        entries.extend(row);
+        entries.push(around);
+    }
+    entries.extend(end);
+    entries
+}
+
+pub fn ringed(picture: &Picture, grey: u8) -> Picture {
+    Picture {
+        width: picture.width + 2,
+        height: picture.height + 2,
+        greys: ring(picture.width, &picture.greys, grey),
+    }
+}
+
+/// The picture set in a ring, one pixel wide, of its least grey.
+pub fn in_ring(picture: &Picture) -> Picture {
+    ringed(picture, picture.least())
+}
+
+pub fn by_place(width: usize, height: usize, mut grey: impl FnMut(usize, usize) -> u8) -> Vec<u8> {
     let mut greys = Vec::with_capacity(width * height);
     for row in 0..height {
         for column in 0..width {
@@ -166,7 +192,7 @@ fn flat(random: &mut Random, width: usize, height: usize) -> Vec<u8> {
     vec![random.byte(); width * height]
 }
 
-/// Nested frames whose greys rise, fall or jump.
+/// Nested rings whose greys rise, fall or jump.
 fn rings(random: &mut Random, width: usize, height: usize) -> Vec<u8> {
     let most = width.min(height) / 2 + 1;
     let step = random.byte();
@@ -290,13 +316,20 @@ fn small_size(random: &mut Random) -> (usize, usize) {
     }
 }
 
+/// A small picture of each kind in turn. Half of them are set in a ring, so that the frame cuts no
+/// node but the root.
 pub fn small(random: &mut Random, case: usize) -> Picture {
     let (width, height) = small_size(random);
     let (_, maker) = KINDS[case % KINDS.len()];
     let greys = maker(random, width, height);
-    Picture {
+    let picture = Picture {
         width,
         height,
         greys,
+    };
+    if random.chance(1, 2) {
+        in_ring(&picture)
+    } else {
+        picture
     }
 }

@@ -1,22 +1,25 @@
 // The scope, "Table of small pictures" and the readings that mislead: expected values as printed
-// there, for the definitions here and for the library. With 8 neighbours named the two-row case has
-// zero maps and the others stay.
+// there, for both programs here and for the library. The small pictures are set in a ring, one
+// pixel wide, of their least grey; their maps and openings inside it stay, and the tree case is
+// worked out again. With 8 neighbours named the two-row case has zero maps and the others stay.
 
 use crate::calls::{check_build, check_map, check_open, ByDefinition, Call};
-use crate::definition::{Levels, Picture};
+use crate::definition::{Levels, Picture, Record};
+use crate::fast::Forest;
+use crate::pictures::{in_ring, ring};
 use crate::random::Random;
 use crate::report::Report;
 
 pub const AREA: u32 = 1;
 pub const HEIGHT: u32 = 2;
 pub const WIDTH: u32 = 3;
-const LAST: u32 = 1_048_577;
+pub const LAST: u32 = 1_048_577;
 
-fn row(greys: &[u8]) -> Picture {
+pub fn rows<const COLUMNS: usize>(rows: &[[u8; COLUMNS]]) -> Picture {
     Picture {
-        width: greys.len(),
-        height: 1,
-        greys: greys.to_vec(),
+        width: COLUMNS,
+        height: rows.len(),
+        greys: rows.concat(),
     }
 }
 
@@ -28,52 +31,101 @@ pub struct Table<'a> {
 }
 
 impl Table<'_> {
-    pub fn tree(&mut self, picture: &Picture, parents: &[u32], attributes: &[u32], nodes: u32) {
+    pub fn tree(&mut self, picture: &Picture, attribute: u32, due: &Record) {
         let levels = Levels::of(picture, self.neighbours);
-        let record = levels.record(AREA);
-        let same =
-            record.parents == parents && record.attributes == attributes && record.nodes == nodes;
+        let forest = Forest::of(picture, self.neighbours);
+        let same = levels.record(attribute) == *due && forest.record(attribute) == *due;
         self.defined(same, "tree", picture);
         let truth = ByDefinition {
             picture,
             levels: &levels,
         };
-        let call = Call::good(picture, AREA, self.neighbours, vec![1]);
+        let call = Call::good(picture, attribute, self.neighbours, vec![1]);
         check_build(self.report, &mut self.random, &call, &truth);
     }
 
     pub fn maps(&mut self, picture: &Picture, named: (u32, &[u32]), residue: &[u8], index: &[u16]) {
         let levels = Levels::of(picture, self.neighbours);
+        let forest = Forest::of(picture, self.neighbours);
+        let due = (residue.to_vec(), index.to_vec());
+        let same =
+            levels.maps(picture, named.0, named.1) == due && forest.maps(named.0, named.1) == due;
+        self.defined(same, "maps", picture);
         let truth = ByDefinition {
             picture,
             levels: &levels,
         };
         let call = Call::good(picture, named.0, self.neighbours, named.1.to_vec());
-        let (largest, at) = levels.maps(picture, named.0, named.1);
-        self.defined(largest == residue && at == index, "maps", picture);
         check_map(self.report, &mut self.random, &call, &truth);
     }
 
-    fn opening(&mut self, picture: &Picture, threshold: u32, opened: &[u8]) {
+    pub fn opening(&mut self, picture: &Picture, named: (u32, u32), opened: &[u8]) {
         let levels = Levels::of(picture, self.neighbours);
+        let forest = Forest::of(picture, self.neighbours);
+        let same = levels.opening(named.0, named.1) == opened
+            && forest.opening(named.0, named.1) == opened;
+        self.defined(same, "opening", picture);
         let truth = ByDefinition {
             picture,
             levels: &levels,
         };
-        self.defined(
-            levels.opening(AREA, threshold) == opened,
-            "opening",
-            picture,
-        );
-        let call = Call::good(picture, AREA, self.neighbours, vec![threshold]);
+        let call = Call::good(picture, named.0, self.neighbours, vec![named.1]);
         check_open(self.report, &mut self.random, &call, &truth);
     }
 
     fn defined(&mut self, same: bool, what: &str, picture: &Picture) {
-        let fault = (!same).then(|| format!("definition here: {what} is not the table's"));
+        let fault = (!same).then(|| format!("programs here: {what} not as worked out by hand"));
         let neighbours = self.neighbours;
         self.report
             .check(fault, || format!("{picture:?}, {neighbours} neighbours"));
+    }
+
+    /// The tree of a picture in which the frame cuts every node, by each attribute.
+    pub fn tree_cut(&mut self, picture: &Picture, parents: &[u32], representatives: &[usize]) {
+        let mut attributes = vec![0; picture.pixels()];
+        for p in representatives {
+            attributes[*p] = LAST;
+        }
+        let due = Record {
+            parents: parents.to_vec(),
+            attributes,
+            nodes: representatives.len() as u32,
+        };
+        for attribute in [AREA, HEIGHT, WIDTH] {
+            self.tree(picture, attribute, &due);
+        }
+    }
+
+    /// The tree by area of a picture set in its ring, in which the root's representative is
+    /// position 0. Given are the words inside the ring; parents are positions in the whole.
+    pub fn tree_inside(&mut self, inside: &Picture, parents: &[u32], areas: &[u32], nodes: u32) {
+        let mut attributes = ring(inside.width, areas, 0);
+        attributes[0] = LAST;
+        let due = Record {
+            parents: ring(inside.width, parents, 0),
+            attributes,
+            nodes,
+        };
+        self.tree(&in_ring(inside), AREA, &due);
+    }
+
+    /// The maps of a picture set in its ring: as given inside, 0 in the ring.
+    pub fn maps_inside(
+        &mut self,
+        inside: &Picture,
+        named: (u32, &[u32]),
+        residue: &[u8],
+        index: &[u16],
+    ) {
+        let residue = ring(inside.width, residue, 0);
+        let index = ring(inside.width, index, 0);
+        self.maps(&in_ring(inside), named, &residue, &index);
+    }
+
+    /// The opening by area of a picture set in its ring: as given inside, and the ring stays.
+    fn opening_inside(&mut self, inside: &Picture, threshold: u32, opened: &[u8]) {
+        let opened = ring(inside.width, opened, inside.least());
+        self.opening(&in_ring(inside), (AREA, threshold), &opened);
     }
 
     /// Thresholds and lists at the ends of their ranges.
@@ -100,9 +152,9 @@ impl Table<'_> {
     /// A plateau of `area` pixels in a row falls at the first threshold above it, the last of 256
     /// steps included.
     fn last_steps(&mut self, area: usize) {
-        let mut greys = vec![1; 600];
+        let mut greys = [1; 600];
         greys[7..7 + area].fill(9);
-        let picture = row(&greys);
+        let picture = rows(&[greys]);
         for attribute in [AREA, WIDTH] {
             for last in [256, 257, LAST] {
                 let steps: Vec<u32> = (1..=255).chain([last]).collect();
@@ -112,31 +164,40 @@ impl Table<'_> {
                 let at = |p: usize| (7..7 + area).contains(&p);
                 let residue: Vec<u8> = (0..600).map(|p| if at(p) { fall } else { 0 }).collect();
                 let index: Vec<u16> = (0..600).map(|p| if at(p) { place } else { 0 }).collect();
-                self.maps(&picture, (attribute, &steps), &residue, &index);
+                self.maps_inside(&picture, (attribute, &steps), &residue, &index);
             }
         }
     }
 
     /// Pictures of one row, in which no two pixels share only a corner.
-    fn rows(&mut self) {
-        let p = row(&[10, 30, 20, 50, 10]);
-        self.tree(&p, &[0, 2, 0, 2, 0], &[5, 1, 3, 1, 0], 4);
-        self.maps(
+    fn one_row(&mut self) {
+        let p = rows(&[[10, 30, 20, 50, 10]]);
+        self.tree(
+            &rows(&[[10; 7], [10, 10, 30, 20, 50, 10, 10], [10; 7]]),
+            AREA,
+            &Record {
+                parents: [[0; 7], [0, 0, 10, 0, 10, 0, 0], [0; 7]].concat(),
+                attributes: [[LAST, 0, 0, 0, 0, 0, 0], [0, 0, 1, 3, 1, 0, 0], [0; 7]].concat(),
+                nodes: 4,
+            },
+        );
+        self.maps_inside(
             &p,
             (AREA, &[1, 2, 3, 4]),
             &[0, 10, 10, 30, 0],
             &[0, 4, 4, 2, 0],
         );
-        self.maps(&p, (AREA, &[2, 4]), &[0, 10, 10, 30, 0], &[0, 2, 2, 1, 0]);
-        self.maps(&p, (AREA, &[1]), &[0; 5], &[0; 5]);
-        self.maps(&p, (AREA, &[6]), &[0, 20, 10, 40, 0], &[0, 1, 1, 1, 0]);
-        self.maps(&p, (HEIGHT, &[1, 2]), &[0, 20, 10, 40, 0], &[0, 2, 2, 2, 0]);
-        self.opening(&p, 2, &[10, 20, 20, 20, 10]);
-        self.opening(&p, 3, &[10, 20, 20, 20, 10]);
-        self.opening(&p, 4, &[10; 5]);
+        self.maps_inside(&p, (AREA, &[2, 4]), &[0, 10, 10, 30, 0], &[0, 2, 2, 1, 0]);
+        self.maps_inside(&p, (AREA, &[1]), &[0; 5], &[0; 5]);
+        self.maps_inside(&p, (AREA, &[6]), &[0, 20, 10, 40, 0], &[0, 1, 1, 1, 0]);
+        self.maps_inside(&p, (HEIGHT, &[1, 2]), &[0, 20, 10, 40, 0], &[0, 2, 2, 2, 0]);
+        self.opening_inside(&p, 2, &[10, 20, 20, 20, 10]);
+        self.opening_inside(&p, 3, &[10, 20, 20, 20, 10]);
+        self.opening_inside(&p, 4, &[10; 5]);
+        self.ends(&in_ring(&p));
         self.ends(&p);
-        self.maps(
-            &row(&[10, 40, 10]),
+        self.maps_inside(
+            &rows(&[[10, 40, 10]]),
             (AREA, &[1, 2]),
             &[0, 30, 0],
             &[0, 2, 0],
@@ -145,18 +206,18 @@ impl Table<'_> {
             self.last_steps(area);
         }
         for attribute in 1..=3 {
-            self.maps(&row(&[7]), (attribute, &[1, 2, LAST]), &[0], &[0]);
-            self.maps(&row(&[7; 9]), (attribute, &[1, 2, LAST]), &[0; 9], &[0; 9]);
+            for picture in [rows(&[[7]]), rows(&[[7; 9]])] {
+                let (residue, index) = (vec![0; picture.width], vec![0; picture.width]);
+                let named: (u32, &[u32]) = (attribute, &[1, 2, LAST]);
+                self.maps(&picture, named, &residue, &index);
+                self.maps_inside(&picture, named, &residue, &index);
+            }
         }
     }
 }
 
 pub fn run(report: &mut Report, seed: u64) {
-    let two_rows = Picture {
-        width: 2,
-        height: 2,
-        greys: vec![9, 0, 0, 9],
-    };
+    let two_rows = rows(&[[9, 0], [0, 9]]);
     let cases = [(4, [9, 0, 0, 9], [1, 0, 0, 1]), (8, [0; 4], [0; 4])];
     for (neighbours, residue, index) in cases {
         let mut table = Table {
@@ -164,7 +225,7 @@ pub fn run(report: &mut Report, seed: u64) {
             random: Random::for_case(seed, 3, u64::from(neighbours)),
             neighbours,
         };
-        table.rows();
-        table.maps(&two_rows, (AREA, &[2]), &residue, &index);
+        table.one_row();
+        table.maps_inside(&two_rows, (AREA, &[2]), &residue, &index);
     }
 }
