@@ -101,6 +101,8 @@ static double run_picture(const char *name, uint32_t attribute, uint32_t neighbo
             printf("%s: library and %s differ\n", name, ways[way]);
             return -1;
         }
+    if (count > EARLIER && !agree(&results[0], &results[EARLIER]))
+        printf("%s: the earlier library answers otherwise\n", name);
     return times[MAP][LIBRARY];
 }
 

@@ -1,6 +1,6 @@
 -- Laws of the accumulators, for the three attributes together: joining is commutative and associative, nothing changes nothing, the
 -- frame is noted once for a set, and the attribute of a set is read from its accumulator. Assumes nothing.
-use Prim.Native.Nat.{ℕ, zero, suc, _+_, _-_, _*_, _/_, _%_, min, max, _≤_, _<_}
+use Prim.Native.Nat.{ℕ, zero, suc, _+_, _-_, _/_, _%_, min, max, _≤_, _<_}
 use mathlib.Core.Bool.{Bool, true, false, cond, _&&_, _||_}
 use mathlib.Core.Logic.{⊎-elim}
 use mathlib.Core.Path.{_≡_, refl, sym, ap, _∙_}
@@ -14,9 +14,9 @@ use Rattle.sets.proofs.Tests.{decided, clash, is-false}
 use Rattle.sets.proofs.Laws.{some-in-intro, count-le}
 use Rattle.sets.proofs.Gather.{gather-ext, gather-one, gather-union, min-le, max-ge, max-le, min-found}
 use Rattle.grid.specs.Pixels.{pixels}
-use Rattle.grid.specs.Attributes.{side, extent, visible, on-frame, touches-frame, attribute}
+use Rattle.grid.specs.Attributes.{side, extent, visible, on-frame, attribute}
 use Rattle.grid.specs.declared.Grid.{Grid}
-use Rattle.grid.proofs.Attributes.{extent-ends, side-le}
+use Rattle.grid.proofs.Attributes.{extent-ends, side-le, attribute-touched, attribute-untouched}
 use Rattle.causes.specs.Bounds.{longest-side, most-pixels, top-threshold}
 use Rattle.accumulators.specs.Accumulators.{packed, nothing, seen, framed, single, combined, measured, gathered, Small, Capped, Short, In-order}
 
@@ -154,6 +154,22 @@ framed-join a true false x y h k = framed-left a x y k
 framed-join a false true x y h k = framed-right a x y h
 framed-join a false false x y h k = refl
 
+-- its two ends are in order, and it is read as the top threshold
+framed-ends : (a x : ℕ) → In-order a (framed a x)
+unfolding framed
+framed-ends a x e =
+    rw
+    (e, packed-first longest-side (x % longest-side) (omega arith), packed-last longest-side (x % longest-side) (omega arith))
+    (omega arith)
+
+measured-framed : (a x : ℕ) → measured a (framed a x) ≡ top-threshold
+unfolding measured framed
+measured-framed a x =
+    by-area
+    a
+    (λ e. rw e refl)
+    (λ e. rw (e, packed-last longest-side (x % longest-side) (omega arith)) refl)
+
 -- so the accumulator of a set is that of what is seen of it, with the frame noted if one of its pixels is on it
 pub gathered-framed : (grid : Grid) (a n : ℕ) (s : Positions) → ((q : ℕ) → q < n → Short grid a q) → gathered a n (single grid a) s ≡ cond (some-in n (λ (q : ℕ). s q && on-frame grid q)) (framed a (gathered a n (seen grid a) s)) (gathered a n (seen grid a) s)
 unfolding gather some-in single
@@ -269,20 +285,13 @@ module _ (grid : Grid) (a n : ℕ) (s : Positions) (q : ℕ) (b : q < n) (i : s 
       (ends e, packed-first g l least-small, packed-last g l least-small)
       (omega (arith, min-le n n (side (grid .width) a) s q b i, max-ge n 0 (side (grid .width) a) s q b i))
 
-  framed-ends : (x : ℕ) → In-order a (framed a x)
-  unfolding framed
-  framed-ends x e =
-      rw
-      (e, packed-first longest-side (x % longest-side) (omega arith), packed-last longest-side (x % longest-side) (omega arith))
-      (omega arith)
-
   -- the least is at most the greatest
   pub gathered-ends : In-order a (gathered a n (single grid a) s)
   gathered-ends =
       rw
       (gathered-framed grid a n s short)
       (⊎-elim
-      (λ f. rw f (framed-ends (gathered a n (seen grid a) s)))
+      (λ f. rw f (framed-ends a (gathered a n (seen grid a) s)))
       (λ f. rw f seen-ends)
       (decided (some-in n (λ (x : ℕ). s x && on-frame grid x))))
 
@@ -299,31 +308,15 @@ module _ (grid : Grid) (a n : ℕ) (s : Positions) (q : ℕ) (b : q < n) (i : s 
   unfolding measured
   measured-count few e = rw e (gathered-count grid a e n s few)
 
-  measured-framed : (x : ℕ) → measured a (framed a x) ≡ top-threshold
-  unfolding measured framed
-  measured-framed x =
-      by-area
-      a
-      (λ e. rw e refl)
-      (λ e. rw (e, packed-last longest-side (x % longest-side) (omega arith)) refl)
-
   measured-visible : n ≤ most-pixels → n ≡ pixels grid → measured a (gathered a n (seen grid a) s) ≡ visible grid a s
   unfolding visible
   measured-visible few all =
       by-area a (λ e. measured-count few e ∙ rw (e, all) refl) (λ e. measured-ends e ∙ rw (e, all) refl)
 
-  touched : touches-frame grid s ≡ true → attribute grid a s ≡ top-threshold
-  unfolding attribute
-  touched f = rw f refl
-
-  untouched : touches-frame grid s ≡ false → attribute grid a s ≡ visible grid a s
-  unfolding attribute
-  untouched f = rw f refl
-
   pub measured-attribute : n ≤ most-pixels → n ≡ pixels grid → measured a (gathered a n (single grid a) s) ≡ attribute grid a s
   measured-attribute few all =
       ap (measured a) (gathered-framed grid a n s short)
       ∙ ⊎-elim
-      (λ f. rw f (measured-framed (gathered a n (seen grid a) s) ∙ sym (touched (rw all at f))))
-      (λ f. rw f (measured-visible few all ∙ sym (untouched (rw all at f))))
+      (λ f. rw f (measured-framed a (gathered a n (seen grid a) s) ∙ sym (attribute-touched grid a s (rw all at f))))
+      (λ f. rw f (measured-visible few all ∙ sym (attribute-untouched grid a s (rw all at f))))
       (decided (some-in n (λ (x : ℕ). s x && on-frame grid x)))

@@ -1,14 +1,16 @@
 -- What the frame keeps: no threshold removes a node with a pixel in the first or last row or column, and the root is such a node. So an opening
 -- changes no pixel of such a node, and both maps are 0 there. A picture has no more pixels than it may have.
 use Prim.Native.Nat.{ℕ, _-_, _≤_, _<_}
-use mathlib.Core.Bool.{true, _||_}
+use mathlib.Core.Bool.{true}
 use mathlib.Core.List.{List, [], _∷_}
 use mathlib.Core.Logic.{⊎-elim}
-use mathlib.Core.Path.{_≡_, refl, sym, subst}
+use mathlib.Core.Path.{_≡_, refl, sym, subst, _∙_}
 use native.Mathlib.Omega.{arith}
-use borrow.Author.Tests.{leb-true, le-leb}
+use lib.ListN.{getD}
+use borrow.Author.Tests.{le-leb}
 use Rattle.sets.specs.Sets.{member}
-use Rattle.sets.proofs.Tests.{and-left, and-right, or-left, le-or-lt}
+use Rattle.sets.proofs.Laws.{table-at}
+use Rattle.sets.proofs.Tests.{and-left, and-right, le-or-lt}
 use Rattle.connected.proofs.Laws.{component-self}
 use Rattle.grid.specs.Pixels.{pixels}
 use Rattle.grid.specs.Neighbours.{adjacent}
@@ -22,12 +24,12 @@ use Rattle.opening.specs.Opening.{level-set, component-at, least-grey, at-least
 use Rattle.opening.specs.Node.{node}
 use Rattle.opening.specs.Residue.{falls-from, largest, largest-place, threshold-tests, openings-by, residue-by, index-by}
 use Rattle.opening.proofs.Opened.{opened-le}
-use Rattle.calls.specs.Judging.{threshold-good, all-good}
-use Rattle.calls.specs.Calls.{opening}
+use Rattle.calls.specs.Judging.{threshold-good, all-good, steps-good}
+use Rattle.calls.specs.Calls.{grey, opening, residue-map, index-map}
 use Rattle.calls.proofs.Openings.{node-goes}
-use Rattle.calls.proofs.Accepted.{threshold-top}
+use Rattle.calls.proofs.Accepted.{threshold-top, step-list}
 
-module _ (grid : Grid) (few : pixels grid ≤ most-pixels) (a : ℕ) (g : ℕ → ℕ) where
+module _ (grid : Grid) (a : ℕ) (g : ℕ → ℕ) where
   own-pixel : (p : ℕ) → p < pixels grid → member (node (pixels grid) (adjacent grid) g p) p ≡ true
   unfolding component-at
   own-pixel p below = component-self (pixels grid) (adjacent grid) (level-set g (g p)) p below (le-leb (g p) (g p) (omega arith))
@@ -53,9 +55,9 @@ module _ (grid : Grid) (few : pixels grid ≤ most-pixels) (a : ℕ) (g : ℕ �
       (first-framed grid)
 
   -- "so no threshold removes it"
-  pub framed-stays : (p q : ℕ) → p < pixels grid → q < pixels grid → member (node (pixels grid) (adjacent grid) g p) q ≡ true
+  pub framed-stays : pixels grid ≤ most-pixels → (p q : ℕ) → p < pixels grid → q < pixels grid → member (node (pixels grid) (adjacent grid) g p) q ≡ true
       → on-frame grid q ≡ true → (t : ℕ) → t ≤ top-threshold → opening grid a t g p ≡ g p
-  framed-stays p q below below-q in-node frame t top =
+  framed-stays few p q below below-q in-node frame t top =
       let low : opening grid a t g p ≤ g p = opened-le (pixels grid) (adjacent grid) (at-least (attribute grid a) t) g p below in
       ⊎-elim
       (λ high. omega arith)
@@ -64,9 +66,8 @@ module _ (grid : Grid) (few : pixels grid ≤ most-pixels) (a : ℕ) (g : ℕ �
       (le-or-lt (g p) (opening grid a t g p))
 
   -- nor does it change a pixel on the frame
-  pub frame-stays : (p : ℕ) → p < pixels grid → on-frame grid p ≡ true → (t : ℕ) → t ≤ top-threshold → opening grid a t g p ≡ g p
-  frame-stays p below frame =
-      framed-stays p p below below (own-pixel p below) frame
+  pub frame-stays : pixels grid ≤ most-pixels → (p : ℕ) → p < pixels grid → on-frame grid p ≡ true → (t : ℕ) → t ≤ top-threshold → opening grid a t g p ≡ g p
+  frame-stays few p below frame = framed-stays few p p below below (own-pixel p below) frame
 
 -- where no opening takes anything away, both maps are 0
 module _ (grid : Grid) (a : ℕ) (g : ℕ → ℕ) (p : ℕ) (same : (t : ℕ) → t ≤ top-threshold → opening grid a t g p ≡ g p) where
@@ -82,12 +83,24 @@ module _ (grid : Grid) (a : ℕ) (g : ℕ → ℕ) (p : ℕ) (same : (t : ℕ) �
       let none : g p - g p ≡ 0 = omega arith in
       rw (here, later, none) refl
 
-  pub no-residue : (steps : List ℕ) → all-good steps ≡ true
+  no-residue : (steps : List ℕ) → all-good steps ≡ true
       → residue-by (pixels grid) (adjacent grid) (threshold-tests (attribute grid a) steps) g p ≡ 0
   unfolding residue-by
   no-residue steps good = no-falls steps good
 
-  pub no-index : (steps : List ℕ) → all-good steps ≡ true
+  no-index : (steps : List ℕ) → all-good steps ≡ true
       → index-by (pixels grid) (adjacent grid) (threshold-tests (attribute grid a) steps) g p ≡ 0
   unfolding index-by largest-place
   no-index steps good = rw (no-falls steps good) refl
+
+-- so both maps are 0 at each own pixel p of a node with a pixel q on the frame
+pub framed-maps : (grid : Grid) (a : ℕ) (picture steps : List ℕ) → pixels grid ≤ most-pixels → steps-good steps ≡ true → (p q : ℕ) → p < pixels grid
+    → q < pixels grid → member (node (pixels grid) (adjacent grid) (grey picture) p) q ≡ true → on-frame grid q ≡ true
+    → (getD (residue-map grid a steps picture) p 0 ≡ 0) × (getD (index-map grid a steps picture) p 0 ≡ 0)
+unfolding residue-map index-map
+framed-maps grid a picture steps few good p q below below-q in-node frame =
+    let same = framed-stays grid a (grey picture) few p q below below-q in-node frame in
+    let each = step-list steps good .each-good in (
+      table-at (pixels grid) _ p 0 below ∙ no-residue grid a (grey picture) p same steps each,
+      table-at (pixels grid) _ p 0 below ∙ no-index grid a (grey picture) p same steps each,
+    )

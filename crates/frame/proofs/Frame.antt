@@ -1,20 +1,17 @@
--- The pass over the frame: one node marked, sets marked one after the other, and that the four runs are the frame. Assumes nothing.
-use Prim.Native.Nat.{ℕ, _+_, _-_, _*_, _/_, _%_, _≤_, _<_}
+-- The pass over the frame: one node marked, sets marked one after the other, and a run of pixels. Assumes nothing.
+use Prim.Native.Nat.{ℕ, _+_, _*_, _≤_, _<_}
 use mathlib.Core.Bool.{Bool, true, false, cond, _&&_, _||_}
 use mathlib.Core.List.{List}
-use mathlib.Core.Logic.{inl, inr, ⊎-elim}
+use mathlib.Core.Logic.{⊎-elim}
 use mathlib.Core.Path.{_≡_, refl, sym, ap, subst, _∙_}
 use native.Mathlib.Omega.{arith}
 use lib.Dec.{eqb}
-use lib.ListN.{getD, length, set, length-set}
+use lib.ListN.{length, set, length-set}
 use lib.Seq.{getD-set-same, getD-set-other}
 use borrow.Author.Tests.{eqb-true, eq-eqb}
 use Rattle.sets.specs.Sets.{Positions, some-in}
 use Rattle.sets.proofs.Laws.{some-in-intro, some-in-elim, some-in-ext}
 use Rattle.sets.proofs.Tests.{clash, is-false, same-truth, and-left, and-right, and-both, or-cases, or-left, or-right}
-use Rattle.grid.specs.Pixels.{pixels}
-use Rattle.grid.specs.Attributes.{on-frame}
-use Rattle.grid.specs.declared.Grid.{Grid}
 use Rattle.levels.specs.Workspace.{Sized, number-at, numbered, held-of}
 use Rattle.levels.proofs.Counts.{by-cases, equal-or-not}
 use Rattle.parts.proofs.Parts.{lent, returned, lent-long, lent-read, stored-in}

@@ -117,6 +117,19 @@ grown false true top k l i h m = h
 grown false false top k l i h m = m
 
 module _ (grid : Grid) (a : ℕ) where
+  -- a set that touches the frame has 1,048,577, and any other what is seen of it
+  pub attribute-touched : (s : Positions) → touches-frame grid s ≡ true → attribute grid a s ≡ top-threshold
+  unfolding attribute
+  attribute-touched s e = rw e refl
+
+  pub attribute-untouched : (s : Positions) → touches-frame grid s ≡ false → attribute grid a s ≡ visible grid a s
+  unfolding attribute
+  attribute-untouched s e = rw e refl
+
+  -- so one with a pixel on the frame
+  pub attribute-framed : (s : Positions) (q : ℕ) → q < pixels grid → s q ≡ true → on-frame grid q ≡ true → attribute grid a s ≡ top-threshold
+  attribute-framed s q below in-s frame = attribute-touched s (touches-intro grid s q below in-s frame)
+
   -- "The attribute still cannot fall as a set grows." More pixels than a picture may have could outgrow the frame's attribute.
   pub attribute-increasing : pixels grid ≤ most-pixels → Increasing (pixels grid) (attribute grid a)
   unfolding attribute
@@ -125,11 +138,6 @@ module _ (grid : Grid) (a : ℕ) where
       (λ e. let (q, below, in-s, frame) = touches-elim grid s e in touches-intro grid t q below (h q below in-s) frame)
       (omega (arith, visible-le grid a s))
       (visible-mono grid a s t h)
-
-  -- a set with a pixel on the frame has 1,048,577
-  pub attribute-framed : (s : Positions) (q : ℕ) → q < pixels grid → s q ≡ true → on-frame grid q ≡ true → attribute grid a s ≡ top-threshold
-  unfolding attribute
-  attribute-framed s q below in-s frame = rw (touches-intro grid s q below in-s frame) refl
 
   -- a set with a pixel in it has an attribute above 0
   pub attribute-some : (s : Positions) (q : ℕ) → q < pixels grid → s q ≡ true → 1 ≤ attribute grid a s

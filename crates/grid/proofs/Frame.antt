@@ -1,7 +1,7 @@
 -- The pixels on the frame: the first is one, and in a picture of one or two rows or columns every pixel is. A lemma that needs rows that are
 -- not empty asks it.
-use Prim.Native.Nat.{ℕ, _+_, _*_, _/_, _%_, _≤_, _<_}
-use mathlib.Core.Bool.{true, _||_}
+use Prim.Native.Nat.{ℕ, _+_, _/_, _%_, _≤_, _<_}
+use mathlib.Core.Bool.{true}
 use mathlib.Core.Logic.{_⊎_, ⊎-elim}
 use mathlib.Core.Path.{_≡_, refl}
 use native.Mathlib.Nat.{zero-div, mod-lt, mul-comm, div-lt-iff-lt-mul}

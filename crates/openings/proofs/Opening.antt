@@ -1,6 +1,6 @@
 -- What an opening call answers and writes: refused, it leaves all as it was; accepted, the pass over the record of the picture opens it,
 -- under the neighbours and the attributes of the grid. Assumes nothing.
-use Prim.Native.Nat.{ℕ, _≤_, _<_}
+use Prim.Native.Nat.{ℕ, _<_}
 use mathlib.Core.List.{List}
 use mathlib.Core.Path.{_≡_, refl, sym, _∙_}
 use lib.ListN.{length}

@@ -23,7 +23,7 @@ use Rattle.causes.proofs.Lists.{length-two}
 use Rattle.levels.specs.Tables.{Changed}
 use Rattle.levels.specs.Workspace.{number-at, numbered, lowest-of, up-of, held-of}
 use Rattle.levels.proofs.Counts.{by-cases, equal-or-not}
-use Rattle.accumulators.specs.Accumulators.{nothing, seen, single, framed, combined, gathered, Small, Capped}
+use Rattle.accumulators.specs.Accumulators.{nothing, seen, combined, gathered, Small, Capped}
 use Rattle.accumulators.proofs.Accumulators.{gathered-with, seen-small, seen-one, seen-capped, gathered-small, gathered-area-le, gathered-framed}
 use Rattle.parts.proofs.Parts.{lent, returned, lent-long, lent-read, read-one, read-two, read-else}
 use Rattle.frame.specs.Frame.{Marked, Framable}

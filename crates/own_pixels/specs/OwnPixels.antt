@@ -2,9 +2,7 @@
 use Prim.Native.Nat.{ℕ, _+_, _*_, _≤_, _<_}
 use mathlib.Core.List.{List}
 use mathlib.Core.Path.{_≡_}
-use lib.Dec.{eqb}
 use lib.ListN.{getD, length, set}
-use Rattle.sets.specs.Sets.{Positions}
 use Rattle.sets.specs.Gather.{first-in}
 use Rattle.grid.specs.Pixels.{pixels}
 use Rattle.grid.specs.declared.Grid.{Grid}

@@ -31,7 +31,7 @@ fn gather(attribute: u32, q: usize, k: usize, own: u32, words: &mut [u32])
 }
 
 // The lowest own pixel of each node, and the accumulator of its own pixels: one straight pass over the positions, from the last to the
-// first, so that the pixel noted last is the lowest, by what is seen; then the frame is noted.
+// first, so that the pixel noted last is the lowest. It gathers what is seen; then the frame is noted.
 pub fn own_pixels(n: usize, grid: Grid, attribute: u32, nodes: usize, ws: &mut [u32])
     requires { ⌜ Countable grid attribute n nodes (now ws) ⌝ }
     ensures { λ _. ⌜ Owned grid attribute n nodes (now (ws .entry)) (now (ws .exit)) ⌝ }

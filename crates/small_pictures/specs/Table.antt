@@ -44,7 +44,7 @@ abbrev pub building-P : List ℕ → Build-call
 building-P lent = record { picture = ringed-P; grid = grid-of 7 3 4; attribute = 1; workspace = lent }
 
 pub record Starred : Type 0 where
-  -- "P, area: parents 0 2 0 2 0, attributes 5 1 3 1 0, 4 nodes."
+  -- "P, area: parents 0 2 0 2 0, attributes 5 1 3 1 0, 4 nodes.", worked out again: positions move, and the root has the frame's attribute.
   -- The record's other four parts are zero, and a building call that is lent 126 words answers the number.
   pub tree-record : record-of (grid-of 7 3 4) 1 ringed-P ≡ parents-P ++ attributes-P ++ replicate 84 0
   pub tree-nodes : (lent : List ℕ) → length lent ≡ 126 → built (building-P lent) ≡ Nodes 4

@@ -2,19 +2,20 @@
 // each attribute, the root too, so no threshold removes it. Pictures that are all frame; bright
 // rectangles at every place, touching the frame or not, within each other; floc that meets the
 // frame's pixels only by a corner; floc that fills the largest pictures but for their frame. Of
-// these the library and both programs here are held to what the places alone say. Then random
-// pictures, on which the library is held to the laws as well.
+// these the library and a program here or both are held to what the places alone say; where all is
+// frame, parents and nodes are the second program's. Then random pictures, on which the library is
+// held to the laws as well.
 
 use crate::calls::{attribute_values, check_build, check_map, check_open, shown};
 use crate::calls::{step_list, threshold, ByDefinition, Call, Truth};
-use crate::causes::NEIGHBOURHOODS;
-use crate::definition::{Levels, Picture, Record};
+use crate::causes::{MOST_THRESHOLD, NEIGHBOURHOODS};
+use crate::definition::{Levels, Picture, Record, CUT};
 use crate::fast::Forest;
 use crate::nest::{Nest, Rectangle};
 use crate::pictures::{self, KINDS};
 use crate::random::Random;
 use crate::report::Report;
-use crate::table::{rows, Table, AREA, HEIGHT, LAST, WIDTH};
+use crate::table::{rows, Table, AREA, HEIGHT, WIDTH};
 
 /// The tree, the maps, and the opening at each step, in the programs here and in the library.
 fn check(
@@ -63,7 +64,7 @@ impl Truth for AllFrame<'_> {
             let above = *parent as usize;
             let representative = above == p || greys[above] < greys[p];
             if representative {
-                LAST
+                CUT
             } else {
                 0
             }
@@ -86,7 +87,7 @@ impl Truth for AllFrame<'_> {
 /// Thresholds about 1, about n and at the end of the range.
 fn thresholds(n: usize) -> Vec<u32> {
     let n = n as u32;
-    let mut steps = vec![1, 2, n, n + 1, LAST - 1, LAST];
+    let mut steps = vec![1, 2, n, n + 1, MOST_THRESHOLD - 1, MOST_THRESHOLD];
     steps.sort_unstable();
     steps.dedup();
     steps
@@ -139,8 +140,13 @@ fn without_ring(table: &mut Table) {
     for attribute in [AREA, HEIGHT, WIDTH] {
         for picture in [&p, &two_rows] {
             let (residue, index) = (vec![0; picture.pixels()], vec![0; picture.pixels()]);
-            table.maps(picture, (attribute, &[1, 2, 3, 6, LAST]), &residue, &index);
-            for t in [1, 2, 3, 6, LAST] {
+            table.maps(
+                picture,
+                (attribute, &[1, 2, 3, 6, MOST_THRESHOLD]),
+                &residue,
+                &index,
+            );
+            for t in [1, 2, 3, 6, MOST_THRESHOLD] {
                 table.opening(picture, (attribute, t), &picture.greys);
             }
         }
@@ -227,7 +233,7 @@ fn largest(report: &mut Report, random: &mut Random) {
         for (side, floc) in (turn..).zip(touching) {
             let nest = Nest::new(&[whole, floc]);
             let (attribute, neighbours) = (1 + side as u32 % 3, NEIGHBOURHOODS[side % 2]);
-            let call = Call::good(&nest.picture, attribute, neighbours, vec![LAST]);
+            let call = Call::good(&nest.picture, attribute, neighbours, vec![MOST_THRESHOLD]);
             check_map(report, random, &call, &nest);
         }
     }
@@ -263,7 +269,7 @@ impl Corner {
     fn record(&self, attribute: u32) -> Record {
         let (mut parents, mut attributes) = (vec![0; 20], vec![0; 20]);
         [parents[1], parents[7], parents[12]] = self.parents;
-        [attributes[0], attributes[1]] = [LAST; 2];
+        [attributes[0], attributes[1]] = [CUT; 2];
         attributes[7] = self.attributes[attribute as usize - 1];
         Record {
             parents,
@@ -280,13 +286,13 @@ impl Corner {
             let (mut residue, mut index) = ([0; 20], [0; 20]);
             [residue[7], residue[12]] = [self.fall; 2];
             [index[7], index[12]] = [if self.fall > 0 { 2 } else { 0 }; 2];
-            let steps = [size, size + 1, LAST];
+            let steps = [size, size + 1, MOST_THRESHOLD];
             table.maps(&picture, (attribute, &steps), &residue, &index);
             let mut opened = picture.greys.clone();
             table.opening(&picture, (attribute, size), &opened);
             [opened[7], opened[12]] = [self.greys[1] - self.fall; 2];
             table.opening(&picture, (attribute, size + 1), &opened);
-            table.opening(&picture, (attribute, LAST), &opened);
+            table.opening(&picture, (attribute, MOST_THRESHOLD), &opened);
         }
     }
 }
@@ -304,7 +310,7 @@ fn corners(table: &mut Table) {
         [
             ([9, 9], [0, 1, 1], [0; 3], 0),
             ([5, 9], [0, 1, 7], VISIBLE, 4),
-            ([9, 5], [7, 0, 7], [LAST; 3], 0),
+            ([9, 5], [7, 0, 7], [CUT; 3], 0),
         ]
     };
     for (greys, parents, attributes, fall) in cases {
@@ -350,7 +356,7 @@ fn record_fault(call: &Call, words: &[u32]) -> Option<String> {
             continue;
         }
         let (word, above) = (attributes[p], attributes[above]);
-        let fits = if cut[p] { word == LAST } else { word <= most };
+        let fits = if cut[p] { word == CUT } else { word <= most };
         if !fits || above < word {
             return Some(format!("attribute {word} at {p}, of its parent {above}"));
         }
@@ -391,7 +397,7 @@ fn maps_fault(call: &Call, (residue, index): &(Vec<u8>, Vec<u16>)) -> Option<Str
 /// Every pixel of the frame keeps its grey, and the opening at 1,048,577 is the reconstruction.
 fn opening_fault(call: &Call, picture: &Picture, opened: &[u8]) -> Option<String> {
     let stays = frame(call).iter().all(|p| opened[*p] == picture.greys[*p]);
-    let last = call.steps == [LAST];
+    let last = call.steps == [MOST_THRESHOLD];
     let faults = [
         (!stays).then_some("another grey in the frame"),
         (last && opened != from_frame(call, picture)).then_some("no reconstruction from the frame"),
@@ -411,7 +417,7 @@ fn check_laws(report: &mut Report, random: &mut Random, picture: &Picture, level
         let mapped = check_map(report, random, &call, &truth);
         let fault = mapped.and_then(|maps| maps_fault(&call, &maps));
         report.check(fault, || shown("maps", &call));
-        for t in [threshold(random, &values), LAST] {
+        for t in [threshold(random, &values), MOST_THRESHOLD] {
             let single = Call {
                 steps: vec![t],
                 ..call.clone()
@@ -421,7 +427,7 @@ fn check_laws(report: &mut Report, random: &mut Random, picture: &Picture, level
             report.check(fault, || shown("opening", &single));
         }
         for value in levels.removable(attribute) {
-            report.met("node", u64::from(value == LAST));
+            report.met("node", u64::from(value == CUT));
         }
     }
 }

@@ -9,7 +9,7 @@ use crate::pictures::{in_ring, KINDS};
 use crate::random::Random;
 use crate::report::Report;
 
-const SIZES: [(&str, usize, usize); 10] = [
+const SIZES: [(&str, usize, usize); 11] = [
     ("floc", 1024, 1024),
     ("noise", 1024, 1024),
     ("checkerboard", 1024, 1024),
@@ -20,14 +20,14 @@ const SIZES: [(&str, usize, usize); 10] = [
     ("noise", 4096, 1),
     ("bridges", 1000, 1001),
     ("diagonals", 1024, 1024),
+    ("row ends", 255, 4096),
 ];
 
 /// Sides with the ring.
-const RINGED: [(&str, usize, usize); 6] = [
+const RINGED: [(&str, usize, usize); 5] = [
     ("ramp", 1024, 1024),
     ("spiral", 1024, 1024),
     ("comb", 4096, 256),
-    ("row ends", 255, 4096),
     ("noise", 3, 4096),
     ("noise", 4096, 3),
 ];

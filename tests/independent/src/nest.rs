@@ -2,9 +2,9 @@
 // the places of the rectangles alone.
 
 use crate::calls::Truth;
-use crate::definition::{largest_falls, Picture, Record};
+use crate::causes::MOST_THRESHOLD;
+use crate::definition::{largest_falls, Picture, Record, CUT};
 use crate::pictures::by_place;
-use crate::table::LAST;
 
 /// First and last row, first and last column.
 #[derive(Clone, Copy, PartialEq)]
@@ -57,7 +57,7 @@ impl Rectangle {
         if off_rows && off_columns {
             [height * width, height, width]
         } else {
-            [LAST; 3]
+            [CUT; 3]
         }
     }
 }
@@ -99,7 +99,7 @@ impl Nest {
     pub fn steps(&self, attribute: u32) -> Vec<u32> {
         let values = self.attributes.iter().map(|a| a[attribute as usize - 1]);
         let mut steps: Vec<u32> = values.flat_map(|a| [a, a + 1]).chain([1]).collect();
-        steps.retain(|t| *t <= LAST);
+        steps.retain(|t| *t <= MOST_THRESHOLD);
         steps.sort_unstable();
         steps.dedup();
         steps

@@ -4,7 +4,8 @@
 // worked out again. With 8 neighbours named the two-row case has zero maps and the others stay.
 
 use crate::calls::{check_build, check_map, check_open, ByDefinition, Call};
-use crate::definition::{Levels, Picture, Record};
+use crate::causes::MOST_THRESHOLD;
+use crate::definition::{Levels, Picture, Record, CUT};
 use crate::fast::Forest;
 use crate::pictures::{in_ring, ring};
 use crate::random::Random;
@@ -13,7 +14,6 @@ use crate::report::Report;
 pub const AREA: u32 = 1;
 pub const HEIGHT: u32 = 2;
 pub const WIDTH: u32 = 3;
-pub const LAST: u32 = 1_048_577;
 
 pub fn rows<const COLUMNS: usize>(rows: &[[u8; COLUMNS]]) -> Picture {
     Picture {
@@ -84,7 +84,7 @@ impl Table<'_> {
     pub fn tree_cut(&mut self, picture: &Picture, parents: &[u32], representatives: &[usize]) {
         let mut attributes = vec![0; picture.pixels()];
         for p in representatives {
-            attributes[*p] = LAST;
+            attributes[*p] = CUT;
         }
         let due = Record {
             parents: parents.to_vec(),
@@ -100,7 +100,7 @@ impl Table<'_> {
     /// position 0. Given are the words inside the ring; parents are positions in the whole.
     pub fn tree_inside(&mut self, inside: &Picture, parents: &[u32], areas: &[u32], nodes: u32) {
         let mut attributes = ring(inside.width, areas, 0);
-        attributes[0] = LAST;
+        attributes[0] = CUT;
         let due = Record {
             parents: ring(inside.width, parents, 0),
             attributes,
@@ -135,13 +135,13 @@ impl Table<'_> {
             picture,
             levels: &levels,
         };
-        for t in [0, 1, LAST, LAST + 1] {
+        for t in [0, 1, MOST_THRESHOLD, MOST_THRESHOLD + 1] {
             let call = Call::good(picture, AREA, self.neighbours, vec![t]);
             check_open(self.report, &mut self.random, &call, &truth);
             check_map(self.report, &mut self.random, &call, &truth);
         }
         for count in [0, 1, 255, 256, 257] {
-            for end in [count, LAST] {
+            for end in [count, MOST_THRESHOLD] {
                 let steps = (end - count + 1..=end).collect();
                 let call = Call::good(picture, AREA, self.neighbours, steps);
                 check_map(self.report, &mut self.random, &call, &truth);
@@ -156,7 +156,7 @@ impl Table<'_> {
         greys[7..7 + area].fill(9);
         let picture = rows(&[greys]);
         for attribute in [AREA, WIDTH] {
-            for last in [256, 257, LAST] {
+            for last in [256, 257, MOST_THRESHOLD] {
                 let steps: Vec<u32> = (1..=255).chain([last]).collect();
                 let first_above = steps.iter().position(|t| *t as usize > area);
                 let place = first_above.map_or(0, |i| i as u16 + 1);
@@ -169,7 +169,7 @@ impl Table<'_> {
         }
     }
 
-    /// Pictures of one row, in which no two pixels share only a corner.
+    /// P in its ring: no two of its bright pixels share only a corner.
     fn one_row(&mut self) {
         let p = rows(&[[10, 30, 20, 50, 10]]);
         self.tree(
@@ -177,7 +177,7 @@ impl Table<'_> {
             AREA,
             &Record {
                 parents: [[0; 7], [0, 0, 10, 0, 10, 0, 0], [0; 7]].concat(),
-                attributes: [[LAST, 0, 0, 0, 0, 0, 0], [0, 0, 1, 3, 1, 0, 0], [0; 7]].concat(),
+                attributes: [[CUT, 0, 0, 0, 0, 0, 0], [0, 0, 1, 3, 1, 0, 0], [0; 7]].concat(),
                 nodes: 4,
             },
         );
@@ -208,7 +208,7 @@ impl Table<'_> {
         for attribute in 1..=3 {
             for picture in [rows(&[[7]]), rows(&[[7; 9]])] {
                 let (residue, index) = (vec![0; picture.width], vec![0; picture.width]);
-                let named: (u32, &[u32]) = (attribute, &[1, 2, LAST]);
+                let named: (u32, &[u32]) = (attribute, &[1, 2, MOST_THRESHOLD]);
                 self.maps(&picture, named, &residue, &index);
                 self.maps_inside(&picture, named, &residue, &index);
             }
