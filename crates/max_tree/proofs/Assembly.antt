@@ -2,7 +2,7 @@
 use Prim.Native.Nat.{ℕ, _+_, _/_, _%_, _<_}
 use mathlib.Core.List.{List}
 use mathlib.Core.Path.{_≡_, refl, sym, ap, _∙_}
-use native.Mathlib.Nat.{le-refl, mod-lt, mul-comm, div-lt-iff-lt-mul}
+use native.Mathlib.Nat.{le-refl, mod-lt}
 use native.Mathlib.Omega.{arith}
 use lib.Dec.{eqb}
 use lib.ListN.{getD, length}
@@ -19,6 +19,7 @@ use Rattle.grid.specs.Neighbours.{adjacent}
 use Rattle.grid.specs.Attributes.{side, attribute}
 use Rattle.grid.specs.declared.Grid.{Grid}
 use Rattle.grid.proofs.Attributes.{adjacent-symmetric}
+use Rattle.grid.proofs.Frame.{row-below}
 use Rattle.tree.specs.Forest.{Forest, node-root, lowest}
 use Rattle.tree.specs.Tree.{parent-representative}
 use Rattle.tree.proofs.Record.{representative-lowest, parent-lowest}
@@ -87,12 +88,10 @@ module _ {grid : Grid} {picture ws : List ℕ} (B : Buildable grid picture ws) w
 pub short : {grid : Grid} {picture ws : List ℕ} → Fitted grid picture ws → (a q : ℕ) → q < length picture → Short grid a q
 unfolding side
 short {grid} F a q b =
-    let w : ℕ = grid .width in
-    let h : ℕ = grid .height in
     cond-case
     (λ (k : ℕ). k < longest-side)
     (eqb a 2)
-    (λ e. omega (arith, div-lt-iff-lt-mul {k = w} {x = q} {y = h} (F .fits .wide) .1 (omega (arith, F .bytes, mul-comm w h)), F .fits .not-higher))
+    (λ e. omega (arith, row-below grid (F .fits .wide) q (omega (arith, F .bytes)), F .fits .not-higher))
     (λ e. omega (arith, mod-lt q (F .fits .wide), F .fits .not-wider))
 
 -- the pass over the own pixels
