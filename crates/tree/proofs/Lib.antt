@@ -4,5 +4,7 @@ pub mod Parents
 pub mod Climb
 pub mod Forest
 pub mod Record
+pub mod Listing
+pub mod RootToLeaf
 pub mod Words
 pub mod Reading

@@ -17,9 +17,10 @@ use Rattle.sets.proofs.Tests.{decided}
 use Rattle.connected.specs.Component.{Adjacency, Symmetric}
 use Rattle.opening.specs.Node.{node}
 use Rattle.opening.proofs.Components.{level-self}
-use Rattle.tree.specs.Tree.{representative, parent-representative, is-representative, parent-word, attribute-word, parents, attributes, workspace}
+use Rattle.tree.specs.Tree.{representative, parent-representative, is-representative, parent-word, attribute-word, parents, attributes, listing, workspace}
 use Rattle.tree.proofs.Together.{Together}
 use Rattle.tree.proofs.Representatives.{representative-le}
+use Rattle.tree.proofs.RootToLeaf.{length-listing}
 
 -- a set with a pixel in it has an attribute above 0
 abbrev pub Positive : ℕ → (Positions → ℕ) → Type 0
@@ -34,31 +35,60 @@ module _ (n : ℕ) (adj : Adjacency) (attr : Positions → ℕ) (g : ℕ → ℕ
   unfolding attributes
   length-attributes = length-table n (attribute-word n adj attr g)
 
-  length-both : length (parents n adj g ++ attributes n adj attr g) ≡ n + n
-  length-both =
-      length-append (parents n adj g) (attributes n adj attr g)
-      ∙ omega (arith, length-parents, length-attributes)
+  -- the three parts before the scratch
+  length-two : length (parents n adj g ++ attributes n adj attr g) ≡ n + n
+  length-two =
+      length-append (parents n adj g) (attributes n adj attr g) ∙ omega (arith, length-parents, length-attributes)
 
-  pub length-workspace : length (workspace n adj attr g) ≡ 6 * n
+  length-three : length (parents n adj g ++ attributes n adj attr g ++ listing n adj g) ≡ 3 * n
+  length-three =
+      length-append (parents n adj g ++ attributes n adj attr g) (listing n adj g) ∙ omega (arith, length-two, length-listing n adj g)
+
+  pub length-workspace : length (workspace n adj attr g) ≡ 7 * n
   unfolding workspace
   length-workspace =
-      length-append (parents n adj g ++ attributes n adj attr g) (replicate (4 * n) 0)
-      ∙ omega (arith, length-both, length-replicate {A = ℕ} (4 * n) 0)
+      length-append (parents n adj g ++ attributes n adj attr g ++ listing n adj g) (replicate (4 * n) 0)
+      ∙ omega (arith, length-three, length-replicate {A = ℕ} (4 * n) 0)
+
+  -- a word before the list
+  word-at : (i : ℕ) → i < n + n → getD (workspace n adj attr g) i 0 ≡ getD (parents n adj g ++ attributes n adj attr g) i 0
+  unfolding workspace
+  word-at i b =
+      List·getD-append
+      (parents n adj g ++ attributes n adj attr g ++ listing n adj g)
+      (replicate (4 * n) 0)
+      0
+      i
+      (omega (arith, length-three))
+      ∙ List·getD-append (parents n adj g ++ attributes n adj attr g) (listing n adj g) 0 i (omega (arith, length-two))
 
   pub parent-at : (p : ℕ) → p < n → getD (workspace n adj attr g) p 0 ≡ parent-word n adj g p
-  unfolding workspace parents
+  unfolding parents
   parent-at p b =
-      List·getD-append (parents n adj g ++ attributes n adj attr g) (replicate (4 * n) 0) 0 p (omega (arith, length-both))
+      word-at p (omega arith)
       ∙ List·getD-append (parents n adj g) (attributes n adj attr g) 0 p (omega (arith, length-parents))
       ∙ table-at n (parent-word n adj g) p 0 b
 
   pub attribute-at : (p : ℕ) → p < n → getD (workspace n adj attr g) (n + p) 0 ≡ attribute-word n adj attr g p
-  unfolding workspace attributes
+  unfolding attributes
   attribute-at p b =
-      List·getD-append (parents n adj g ++ attributes n adj attr g) (replicate (4 * n) 0) 0 (n + p) (omega (arith, length-both))
+      word-at (n + p) (omega arith)
       ∙ ap (λ (k : ℕ). getD (parents n adj g ++ attributes n adj attr g) (k + p) 0) (sym length-parents)
       ∙ getD-append-add (parents n adj g) (attributes n adj attr g) p 0
       ∙ table-at n (attribute-word n adj attr g) p 0 b
+
+  pub listed-at : (i : ℕ) → i < n → getD (workspace n adj attr g) (2 * n + i) 0 ≡ getD (listing n adj g) i 0
+  unfolding workspace
+  listed-at i b =
+      let two : 2 * n ≡ length (parents n adj g ++ attributes n adj attr g) = omega (arith, length-two) in
+      List·getD-append
+      (parents n adj g ++ attributes n adj attr g ++ listing n adj g)
+      (replicate (4 * n) 0)
+      0
+      (2 * n + i)
+      (omega (arith, length-three))
+      ∙ ap (λ (k : ℕ). getD (parents n adj g ++ attributes n adj attr g ++ listing n adj g) (k + i) 0) two
+      ∙ getD-append-add (parents n adj g ++ attributes n adj attr g) (listing n adj g) i 0
 
   -- what the two words of a representative say
   pub record Of-representative (p parent word : ℕ) : Type 0 where

@@ -1,9 +1,9 @@
 -- The tree of a picture g of n pixels and the record that is kept of it, under any adjacency and attribute. A node is given by
 -- any of its own pixels: the node of p is the component of p at its own grey.
-use Prim.Native.Nat.{ℕ, zero, suc, _*_}
+use Prim.Native.Nat.{ℕ, zero, suc, _-_, _*_}
 use mathlib.Core.Bool.{Bool, cond, _&&_, _||_}
-use mathlib.Core.List.{List, _++_}
-use lib.Dec.{eqb, ltb}
+use mathlib.Core.List.{List, [], _∷_, _++_}
+use lib.Dec.{eqb, ltb, leb}
 use lib.ListN.{replicate}
 use Rattle.sets.specs.Sets.{Positions, count, table, member}
 use Rattle.sets.specs.Gather.{first-in}
@@ -72,6 +72,22 @@ parents n adj g = table n (parent-word n adj g)
 unfoldable pub attributes : ℕ → Adjacency → (Positions → ℕ) → (ℕ → ℕ) → List ℕ
 attributes n adj attr g = table n (attribute-word n adj attr g)
 
--- "parts 3 to 6 are scratch and are zero on return"
+-- p, put into a list before the first position that is as bright or brighter
+unfoldable pub put : (ℕ → ℕ) → ℕ → List ℕ → List ℕ
+put g p [] = p ∷ []
+put g p (q ∷ rest) = cond (leb (g p) (g q)) (p ∷ q ∷ rest) (q ∷ put g p rest)
+
+-- "by rising level, lower position first within a level": those of the k positions from i on that are in s
+unfoldable pub by-level : (ℕ → ℕ) → Positions → ℕ → ℕ → List ℕ
+by-level g s i zero = []
+by-level g s i (suc k) =
+    let later : List ℕ = by-level g s (suc i) k in
+    cond (s i) (put g i later) later
+
+-- "a part with the representatives by rising level, lower position first within a level, and zeros after the last"
+unfoldable pub listing : ℕ → Adjacency → (ℕ → ℕ) → List ℕ
+listing n adj g = by-level g (is-representative n adj g) 0 n ++ replicate (n - number-of-nodes n adj g) 0
+
+-- "After parents and attributes comes a part with the representatives [..] Scratch follows, zero on return."
 unfoldable pub workspace : ℕ → Adjacency → (Positions → ℕ) → (ℕ → ℕ) → List ℕ
-workspace n adj attr g = parents n adj g ++ attributes n adj attr g ++ replicate (4 * n) 0
+workspace n adj attr g = parents n adj g ++ attributes n adj attr g ++ listing n adj g ++ replicate (4 * n) 0
