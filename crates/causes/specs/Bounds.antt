@@ -17,6 +17,6 @@ top-threshold = 1048577
 abbrev pub most-steps : ℕ
 most-steps = 256
 
--- "workspace not 6n words"
+-- "The workspace grows to 7n words."
 abbrev pub words-a-pixel : ℕ
-words-a-pixel = 6
+words-a-pixel = 7

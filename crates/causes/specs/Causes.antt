@@ -13,7 +13,7 @@ number-of PictureLength = 2
 number-of Attribute = 3
 -- threshold out of range, list empty, over 256 or not strictly rising
 number-of Steps = 4
--- workspace not 6n words
+-- workspace not 7n words
 number-of Workspace = 5
 -- an output not n entries
 number-of Output = 6

@@ -12,7 +12,7 @@ pub const TOP_THRESHOLD: u32 = 1048577;
 
 pub const MOST_STEPS: usize = 256;
 
-pub const WORDS_A_PIXEL: usize = 6;
+pub const WORDS_A_PIXEL: usize = 7;
 
 pub enum Cause {
     Sides,

@@ -201,8 +201,8 @@ module _ {a n from step count : ℕ} {ws₀ ws : List ℕ} {i : ℕ} (start : Ma
         node = omega (arith, M .marked .before q (omega (arith, pixel)), start .within q pixel);
       }
 
-  pub words-long : length ws ≡ 6 * n
-  words-long = asked .sized .words
+  pub words-long : 6 * n ≤ length ws
+  words-long = omega (arith, asked .sized .words)
 
   pub node-within : 3 * number-at ws q + 2 < length (lent (3 * n) (6 * n) ws)
   node-within = omega (arith, lent-long (3 * n) (6 * n) ws (omega (arith, words-long)), asked .node)

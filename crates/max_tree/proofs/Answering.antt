@@ -1,12 +1,8 @@
--- The whole record from its two halves, and what a building call answers and leaves: refused, all as it was; accepted, the record and
+-- What a building call answers and leaves: refused, all as it was; accepted, the record and
 -- the number of nodes. Assumes nothing.
-use Prim.Native.Nat.{ℕ, _*_}
-use mathlib.Core.List.{List, [], _∷_, _++_}
+use Prim.Native.Nat.{ℕ}
+use mathlib.Core.List.{List, [], _∷_}
 use mathlib.Core.Path.{_≡_, refl, sym, ap, _∙_}
-use lib.ListN.{take, replicate}
-use Rattle.grid.specs.Pixels.{pixels}
-use Rattle.grid.specs.declared.Grid.{Grid}
-use Rattle.tree.specs.Tree.{workspace}
 use Rattle.causes.specs.declared.Cause.{Cause}
 use Rattle.calls.specs.Calls.{Build-call, build-verdict, built, built-numbers, build-workspace}
 use Rattle.calls.specs.declared.Verdict.{Verdict}
@@ -14,15 +10,7 @@ use Rattle.calls.specs.declared.Verdict.the-variants.{Accepted, Refused}
 use Rattle.calls.specs.declared.Built.{Built}
 use Rattle.calls.specs.declared.Built.the-variants.{Nodes, Refused as Not-built}
 use Rattle.calls.proofs.Accepted.{build-passed}
-use Rattle.max_tree.specs.Building.{Buildable, Ordered, Whole}
-
-pub whole : {grid : Grid} {a : ℕ} {picture ws ws' : List ℕ} {nodes : ℕ} (n : ℕ) → n ≡ pixels grid → Ordered grid a picture ws nodes → ws' ≡ take (2 * n) ws ++ replicate (4 * n) 0 → Whole grid a picture ws' nodes
-unfolding workspace
-whole {grid} n all ordered cleared =
-    record {
-      left = cleared ∙ rw all (ap (λ (l : List ℕ). l ++ replicate (4 * pixels grid) 0) (ordered .tree));
-      number = ordered .number;
-    }
+use Rattle.max_tree.specs.Building.{Buildable, Whole}
 
 -- the answer and the workspace of a building call
 abbrev pub Answered : Build-call → Built → List ℕ → Type 0

@@ -1,13 +1,13 @@
--- The end of the passes: the record is written from the words of the nodes and its representatives are sorted, which is what building leaves.
+-- The end of the passes: the record is written from the words of the nodes, its representatives are sorted, and what follows them is zeroed.
 -- Assumes nothing.
-use Prim.Native.Nat.{ℕ, _+_, _*_, _≤_, _<_}
+use Prim.Native.Nat.{ℕ, _+_, _-_, _*_, _≤_, _<_}
 use mathlib.Core.Bool.{Bool, true, false, cond}
-use mathlib.Core.List.{List, _++_}
+use mathlib.Core.List.{List, _++_, append-assoc}
 use mathlib.Core.Path.{_≡_, refl, sym, ap, subst, _∙_}
 use native.Mathlib.Nat.{le-refl}
 use native.Mathlib.Omega.{arith}
 use lib.Dec.{eqb}
-use lib.ListN.{getD, length, take, drop, length-drop}
+use lib.ListN.{getD, length, take, drop, replicate, length-drop, replicate-append-replicate}
 use lib.Seq.{length-take-le, take-add, getD-take, getD-drop}
 use borrow.Author.Tests.{eqb-true}
 use Rattle.sets.specs.Sets.{member, table}
@@ -20,17 +20,17 @@ use Rattle.grid.specs.Neighbours.{adjacent}
 use Rattle.grid.specs.Attributes.{attribute}
 use Rattle.grid.specs.declared.Grid.{Grid}
 use Rattle.grid.proofs.Attributes.{adjacent-symmetric}
-use Rattle.tree.specs.Tree.{representative, parents, attributes, parent-representative, parent-word, attribute-word, is-representative, number-of-nodes}
+use Rattle.tree.specs.Tree.{representative, parents, attributes, parent-representative, parent-word, attribute-word, is-representative, number-of-nodes, by-level, listing, workspace}
+use Rattle.tree.specs.Listing.{Listed}
 use Rattle.tree.proofs.Representatives.{representative-le}
+use Rattle.tree.proofs.Listing.{listed-same, by-level-only}
 use Rattle.causes.specs.Bounds.{most-pixels, words-a-pixel}
 use Rattle.levels.specs.Levels.{grey}
 use Rattle.levels.specs.Workspace.{Sized, order-of, number-at, lowest-of, up-of, held-of}
 use Rattle.numbers.specs.Nodes.{NodesOf}
-use Rattle.listing.specs.Listing.{Listed}
-use Rattle.listing.proofs.Listing.{listed-same}
 use Rattle.representatives.specs.Representatives.{Representable, is-lowest, new-parent, new-attribute, Represented}
 use Rattle.sorting.specs.Sorting.{Sortable, Sorted}
-use Rattle.max_tree.specs.Building.{Noded, Ordered}
+use Rattle.max_tree.specs.Building.{Noded, Whole}
 use Rattle.max_tree.proofs.Assembly.{sized}
 
 -- a list that holds two tables, one after the other
@@ -170,16 +170,54 @@ module _ {grid : Grid} {a : ℕ} {picture ws : List ℕ} {m : ℕ} (D : Noded gr
       number-left =
           R .number ∙ count-ext n (is-lowest n ws) (is-representative n adj g) (λ q b. sym (represents q b))
 
+      pub clear-asked : (Sized n ws₂) × (nodes ≤ n)
+      clear-asked = (record { words = words-left; small = fitting .small }, few)
+
+      -- the list is the one that the definition has
+      list-left : take nodes (drop (2 * n) ws₂) ≡ by-level g (is-representative n adj g) 0 n
+      unfolding number-of-nodes
+      list-left =
+          let room : nodes ≤ length (drop (2 * n) ws₂) = rw (length-drop (2 * n) ws₂) (omega (arith, words-left, few)) in
+          let listed : Listed n nodes g (is-representative n adj g) (λ (i : ℕ). getD (take nodes (drop (2 * n) ws₂)) i 0) =
+          listed-same
+          n
+          nodes
+          g
+          (is-representative n adj g)
+          (is-representative n adj g)
+          (order-of n ws₂)
+          (λ (i : ℕ). getD (take nodes (drop (2 * n) ws₂)) i 0)
+          (λ q b. refl)
+          (λ i b. getD-take nodes (drop (2 * n) ws₂) i 0 b ∙ getD-drop (2 * n) ws₂ i 0)
+          order-left in
+          by-level-only
+          (length-take-le nodes (drop (2 * n) ws₂) room ∙ number-left)
+          (subst
+          (λ (k : ℕ). Listed n k g (is-representative n adj g) (λ (i : ℕ). getD (take nodes (drop (2 * n) ws₂)) i 0))
+          number-left
+          listed)
+
+      -- and what follows it is zero
+      record-left : {left : List ℕ} → left ≡ take (2 * n + nodes) ws₂ ++ replicate (5 * n - nodes) 0 → left ≡ workspace n adj (attribute grid a) g
+      unfolding workspace listing
+      record-left cleared =
+          let before : List ℕ = parents n adj g ++ attributes n adj (attribute grid a) g in
+          let list : List ℕ = by-level g (is-representative n adj g) 0 n in
+          let rest : List ℕ = replicate (n - nodes) 0 in
+          let zeros : n - nodes + 4 * n ≡ 5 * n - nodes = omega (arith, few) in
+          cleared
+          ∙ rw
+          (take-add (2 * n) nodes ws₂, tree-left, list-left, sym zeros, sym (replicate-append-replicate {A = ℕ} (n - nodes) (4 * n) 0))
+          (sym (append-assoc (before ++ list) rest (replicate (4 * n) 0))
+          ∙ ap (λ (l : List ℕ). l ++ replicate (4 * n) 0) (append-assoc before list rest))
+          ∙ ap (λ (k : ℕ). before ++ (list ++ replicate (n - k) 0) ++ replicate (4 * n) 0) number-left
+
       -- the bytes of the picture are the pixels of the grid
-      pub ordered : Ordered grid a picture ws₂ nodes
-      ordered =
-          let (words, tree, order, number) =
+      pub whole : {left : List ℕ} → left ≡ take (2 * n + nodes) ws₂ ++ replicate (5 * n - nodes) 0 → Whole grid a picture left nodes
+      whole {left} cleared =
+          let (record-is, number) =
           subst
-          (λ (k : ℕ).
-          (length ws₂ ≡ words-a-pixel * k)
-          × (take (2 * k) ws₂ ≡ parents k adj g ++ attributes k adj (attribute grid a) g)
-          × Listed k nodes g (is-representative k adj g) (order-of k ws₂)
-          × (nodes ≡ number-of-nodes k adj g))
+          (λ (k : ℕ). (left ≡ workspace k adj (attribute grid a) g) × (nodes ≡ number-of-nodes k adj g))
           (D .buildable .bytes)
-          (words-left, tree-left, order-left, number-left) in
-          record { words = words; tree = tree; order = order; number = number }
+          (record-left cleared, number-left) in
+          record { left = record-is; number = number }

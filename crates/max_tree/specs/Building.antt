@@ -1,20 +1,17 @@
 -- What building asks and leaves, for a picture on a grid and the attribute a.
 use Prim.Native.Nat.{ℕ, _*_}
 use mathlib.Core.Bool.{true}
-use mathlib.Core.List.{List, _++_}
+use mathlib.Core.List.{List}
 use mathlib.Core.Path.{_≡_}
-use lib.ListN.{length, take}
+use lib.ListN.{length}
 use Rattle.grid.specs.Pixels.{pixels}
 use Rattle.grid.specs.Neighbours.{adjacent}
-use Rattle.grid.specs.Attributes.{attribute}
 use Rattle.grid.specs.declared.Grid.{Grid}
-use Rattle.tree.specs.Tree.{parents, attributes, is-representative, number-of-nodes}
+use Rattle.tree.specs.Tree.{number-of-nodes}
 use Rattle.causes.specs.Bounds.{words-a-pixel}
 use Rattle.causes.specs.Sides.{sides-fit}
 use Rattle.calls.specs.Calls.{grey, record-of}
-use Rattle.levels.specs.Workspace.{order-of}
 use Rattle.numbers.specs.Nodes.{NodesOf}
-use Rattle.listing.specs.Listing.{Listed}
 
 -- the sides fit, the picture has a byte for each pixel and the workspace its words
 pub record Buildable (grid : Grid) (picture ws : List ℕ) : Type 0 where
@@ -34,22 +31,11 @@ pub record Recordable (picture ws : List ℕ) : Type 0 where
   pub number : ℕ
   pub noded : Noded grid attribute picture ws number
 
--- the record in parts 1 and 2, and the representatives at the start of part 3, by rising level
-pub record Ordered (grid : Grid) (a : ℕ) (picture ws : List ℕ) (nodes : ℕ) : Type 0 where
-  pub words : length ws ≡ words-a-pixel * pixels grid
-  pub tree :
-      take (2 * pixels grid) ws
-      ≡ parents (pixels grid) (adjacent grid) (grey picture)
-      ++ attributes (pixels grid) (adjacent grid) (attribute grid a) (grey picture)
-  pub order :
-      Listed (pixels grid) nodes (grey picture) (is-representative (pixels grid) (adjacent grid) (grey picture)) (order-of (pixels grid) ws)
-  pub number : nodes ≡ number-of-nodes (pixels grid) (adjacent grid) (grey picture)
-
--- the whole record
+-- the whole record, and the number of nodes
 pub record Whole (grid : Grid) (a : ℕ) (picture ws : List ℕ) (nodes : ℕ) : Type 0 where
   pub left : ws ≡ record-of grid a picture
   pub number : nodes ≡ number-of-nodes (pixels grid) (adjacent grid) (grey picture)
 
 -- the record of the words of nodes, whichever grid and attribute they are for
 pub record Recorded (picture ws ws' : List ℕ) (nodes : ℕ) : Type 0 where
-  pub ordered : (grid : Grid) (a m : ℕ) → Noded grid a picture ws m → Ordered grid a picture ws' nodes
+  pub whole : (grid : Grid) (a m : ℕ) → Noded grid a picture ws m → Whole grid a picture ws' nodes

@@ -1,9 +1,9 @@
-// The max-tree of a picture: the record that is kept of it in a workspace, part 1 the parents, part 2 the attributes,
-// parts 3 to 6 scratch. The flood gives the nodes numbers, and the passes make the record of the words of the nodes.
+// The max-tree of a picture: the record that is kept of it in a workspace, part 1 the parents, part 2 the attributes, part 3 the list of
+// the nodes, parts 4 to 7 scratch. The flood gives the nodes numbers, and the passes make the record of the words of the nodes.
 ghost use mathlib.Core.List.{_++_};
 ghost use mathlib.Core.Path.{_≡_};
-ghost use Prim.Native.Nat.{_*_};
-ghost use lib.ListN.{take, replicate};
+ghost use Prim.Native.Nat.{_+_, _-_, _*_, _≤_};
+ghost use lib.ListN.{length, take, replicate};
 ghost use Rattle.calls.specs.Calls.{build-call, built, built-numbers, build-workspace};
 ghost use Rattle.levels.specs.Workspace.{Sized};
 ghost use Rattle.max_tree.specs.Building.{Buildable, Noded, Recordable, Recorded, Whole};
@@ -20,36 +20,48 @@ pub fn build_nodes(picture: &[u8], grid: Grid, attribute: u32, workspace: &mut [
     nodes
 }
 
-// The record in parts 1 and 2 from the words of the nodes, with the representatives by rising level in part 3. Answers the number of nodes.
-pub fn write_ordered(picture: &[u8], workspace: &mut [u32]) -> u32
-    requires { ⌜ Recordable (now picture) (now workspace) ⌝ }
-    ensures { λ r. ⌜ Recorded (now (picture .entry)) (now (workspace .entry)) (now (workspace .exit)) r ⌝ }
+// Zeroes what follows the nodes in the list of them, part 3.
+fn end_list(nodes: usize, list: &mut [u32])
+    requires { ⌜ nodes ≤ length (now list) ⌝ }
+    ensures { λ _. ⌜ now (list .exit) ≡ take nodes (now (list .entry)) ++ replicate (length (now (list .entry)) - nodes) 0 ⌝ }
 {
-    let nodes = representatives::write_record(picture.len(), workspace);
-    sorting::sort_by_level(picture, nodes, workspace);
-    nodes as u32
+    let n = list.len();
+    levels::fill(&mut list[nodes..n], 0);
 }
 
-// Zeroes parts 3 to 6 of a workspace with n words to a part.
-pub fn clear_scratch(n: usize, workspace: &mut [u32])
+// Zeroes what follows the list of the nodes in a workspace with n words to a part: the rest of part 3, and parts 4 to 7.
+fn clear_scratch(n: usize, nodes: usize, workspace: &mut [u32])
     requires { ⌜ Sized n (now workspace) ⌝ }
-    ensures { λ _. ⌜ now (workspace .exit) ≡ take (2 * n) (now (workspace .entry)) ++ replicate (4 * n) 0 ⌝ }
+    requires { ⌜ nodes ≤ n ⌝ }
+    ensures { λ _. ⌜ now (workspace .exit) ≡ take (2 * n + nodes) (now (workspace .entry)) ++ replicate (5 * n - nodes) 0 ⌝ }
 {
-    levels::fill(&mut workspace[2 * n..3 * n], 0);
+    end_list(nodes, &mut workspace[2 * n..3 * n]);
     levels::fill(&mut workspace[3 * n..4 * n], 0);
     levels::fill(&mut workspace[4 * n..5 * n], 0);
     levels::fill(&mut workspace[5 * n..6 * n], 0);
+    levels::fill(&mut workspace[6 * n..7 * n], 0);
 }
 
-// The whole record, with zero scratch. Answers the number of nodes.
+// The whole record from the words of the nodes: parents, attributes, the list of the nodes by rising level, and zero scratch. Answers the
+// number of nodes.
+pub fn write_whole(picture: &[u8], workspace: &mut [u32]) -> u32
+    requires { ⌜ Recordable (now picture) (now workspace) ⌝ }
+    ensures { λ r. ⌜ Recorded (now (picture .entry)) (now (workspace .entry)) (now (workspace .exit)) r ⌝ }
+{
+    let n = picture.len();
+    let nodes = representatives::write_record(n, workspace);
+    sorting::sort_by_level(picture, nodes, workspace);
+    clear_scratch(n, nodes, workspace);
+    nodes as u32
+}
+
+// The whole record of a picture. Answers the number of nodes.
 pub fn build_record(picture: &[u8], grid: Grid, attribute: u32, workspace: &mut [u32]) -> u32
     requires { ⌜ Buildable grid (now picture) (now workspace) ⌝ }
     ensures { λ r. ⌜ Whole grid attribute (now (picture .entry)) (now (workspace .exit)) r ⌝ }
 {
     build_nodes(picture, grid, attribute, workspace);
-    let nodes = write_ordered(picture, workspace);
-    clear_scratch(picture.len(), workspace);
-    nodes
+    write_whole(picture, workspace)
 }
 
 // Builds the tree of a picture: the workspace holds its record, and the answer is the number of nodes.

@@ -5,7 +5,7 @@ use mathlib.Core.List.{List, _++_, append-assoc, append-nil}
 use mathlib.Core.Path.{_≡_, refl, sym, ap, _∙_}
 use native.Mathlib.Omega.{arith}
 use lib.ListN.{getD, length, set, take, drop, replicate, length-set, length-append, length-replicate, length-drop, replicate-append-replicate, drop-of-length-le}
-use lib.Seq.{getD-set-same, getD-set-other, length-take-le, getD-take, getD-drop, take-at, drop-drop, drop-append-add, take-set-lt, take-set-le, drop-set-lt, drop-set-add}
+use lib.Seq.{getD-set-same, getD-set-other, length-take-le, getD-take, getD-drop, take-add, take-take, take-at, drop-drop, drop-append-add, take-set-lt, take-set-le, drop-set-lt, drop-set-add}
 use borrow.Rule.Slice.PartMut.{midOf, putMid, mid-len, post-is, set-mid-at}
 use Rattle.parts.specs.Parts.{filled}
 
@@ -47,6 +47,17 @@ module _ (a e v : ℕ) (xs : List ℕ) (low : a ≤ e) (high : e ≤ length xs) 
   pub filled-long : length (filled a e v xs) ≡ length xs
   filled-long =
       simp (length-append, length-replicate, length-drop) (omega (arith, front))
+
+-- a part filled from its entry k on
+pub rest-filled : (a e k v : ℕ) (xs : List ℕ) → a + k ≤ e → e ≤ length xs → {part : List ℕ} → part ≡ take k (lent a e xs) ++ replicate (length (lent a e xs) - k) v → returned a e xs part ≡ filled (a + k) e v xs
+rest-filled a e k v xs low high all =
+    let times : e - a - k ≡ e - (a + k) = omega arith in
+    let short : take k (take (e - a) (drop a xs)) ≡ take k (drop a xs) = take-take k (e - a) (drop a xs) (omega arith) in
+    let rest : List ℕ = replicate (e - (a + k)) v in
+    rw
+    (all, lent-long a e xs high, post-is a e xs (omega arith), short, times, take-add a k xs)
+    (ap (λ (l : List ℕ). take a xs ++ l) (append-assoc (take k (drop a xs)) rest (drop e xs))
+    ∙ sym (append-assoc (take a xs) (take k (drop a xs)) (rest ++ drop e xs)))
 
 -- a part filled with the word of the part before it
 filled-on : (a b e v : ℕ) (xs : List ℕ) → a ≤ b → b ≤ e → e ≤ length xs → filled b e v (filled a b v xs) ≡ filled a e v xs

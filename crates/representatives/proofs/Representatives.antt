@@ -12,11 +12,11 @@ use lib.Seq.{getD-set-same, getD-set-other}
 use Rattle.sets.specs.Sets.{Positions, count}
 use Rattle.sets.proofs.Tests.{decided, clash}
 use Rattle.sets.proofs.Laws.{count-le}
+use Rattle.tree.specs.Listing.{Before, Listed}
 use Rattle.causes.specs.Bounds.{words-a-pixel}
 use Rattle.levels.specs.Workspace.{order-of, number-at, lowest-of, up-of, held-of}
 use Rattle.levels.proofs.Counts.{bit, off, equal-or-not}
 use Rattle.levels.proofs.Tables.{count-next}
-use Rattle.listing.specs.Listing.{Before, Listed}
 use Rattle.representatives.proofs.Choosing.{bit-most, by-test}
 use Rattle.representatives.specs.Representatives.{Representable, is-lowest, new-parent, new-attribute, Writable, written-at, Represented}
 

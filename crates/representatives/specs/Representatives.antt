@@ -7,8 +7,8 @@ use mathlib.Core.Path.{_≡_}
 use lib.Dec.{eqb}
 use lib.ListN.{getD, length, set}
 use Rattle.sets.specs.Sets.{Positions, count}
+use Rattle.tree.specs.Listing.{Listed}
 use Rattle.levels.specs.Workspace.{Sized, order-of, number-at, lowest-of, up-of, held-of}
-use Rattle.listing.specs.Listing.{Listed}
 
 -- each of n pixels has the number of one of the nodes, whose lowest own pixel it is not below, and each of the nodes that of its parent
 pub record Representable (n : ℕ) (ws : List ℕ) : Type 0 where

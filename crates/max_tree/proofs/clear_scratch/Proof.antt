@@ -1,11 +1,33 @@
--- `max_tree::clear_scratch` meets its contract: each of the four parts comes back filled. Assumes nothing.
-use Prim.Native.Nat.{_*_}
-use mathlib.Core.Path.{refl, _∙_}
-use Rattle.parts.proofs.Parts.{part-filled, filled-next, filled-to-end}
-use borrow.Author.Needs.{needs}
+-- `max_tree::clear_scratch` meets its contract: the list comes back with zeros after the nodes, each of the four parts filled. Assumes
+-- nothing.
+use Prim.Native.Nat.{_+_, _-_, _*_}
+use mathlib.Core.Path.{_∙_}
 use native.Mathlib.Omega.{arith}
+use Rattle.parts.proofs.Parts.{rest-filled, filled-next, filled-to-end}
+use borrow.Author.Needs.{needs}
 use Rattle.max_tree.proofs.clear_scratch.Statement.{statement}
 use Rattle.max_tree.proofs.clear_scratch.Tie as tie
+
+mul-end-list : tie.Need-mul-end-list
+mul-end-list c = search needs
+
+mul-end-list-2 : tie.Need-mul-end-list-2
+mul-end-list-2 c = search needs
+
+mul-end-list-3 : tie.Need-mul-end-list-3
+mul-end-list-3 c = search needs
+
+sub-end-list : tie.Need-sub-end-list
+sub-end-list c = search needs
+
+part-end-list-start : tie.Need-part-end-list-start
+part-end-list-start c = search needs
+
+part-end-list-end : tie.Need-part-end-list-end
+part-end-list-end c = search needs
+
+end-list-requires : tie.Need-end-list-requires
+end-list-requires c κs = search needs
 
 mul-fill : tie.Need-mul-fill
 mul-fill c = search needs
@@ -100,20 +122,32 @@ returns c =
     let at-three = at-four .before .before .before .before in
     let at-two = at-three .before .before .before .before in
     let at-one = at-two .before .before .before .before in
-    let start = at-one .before .before .before in
+    let at-list = at-one .before .before .before .before in
+    let start = at-list .before .before .before in
     let n = start .args .n in
+    let nodes = start .args .nodes in
     let ws = start .args .workspace .now in
-    let size = start .pre .words in
-    let f₁ = part-filled (2 * n) (3 * n) 0 ws (omega arith) (omega arith) refl (at-one .fill .ensures) in
-    let f₂ = filled-next (2 * n) (3 * n) (4 * n) 0 ws (omega arith) (omega arith) (omega arith) f₁ (at-two .fill2 .ensures) in
-    let f₃ = filled-next (2 * n) (4 * n) (5 * n) 0 ws (omega arith) (omega arith) (omega arith) f₂ (at-three .fill3 .ensures) in
-    filled-next (2 * n) (5 * n) (6 * n) 0 ws (omega arith) (omega arith) (omega arith) f₃ (at-four .fill4 .ensures)
-    ∙ filled-to-end (2 * n) (6 * n) (4 * n) 0 ws size (omega arith)
+    let size = start .pre .0 .words in
+    let few = start .pre .1 in
+    let from = 2 * n + nodes in
+    let f₀ = rest-filled (2 * n) (3 * n) nodes 0 ws (omega arith) (omega arith) (at-list .end-list .ensures) in
+    let f₁ = filled-next from (3 * n) (4 * n) 0 ws (omega arith) (omega arith) (omega arith) f₀ (at-one .fill .ensures) in
+    let f₂ = filled-next from (4 * n) (5 * n) 0 ws (omega arith) (omega arith) (omega arith) f₁ (at-two .fill2 .ensures) in
+    let f₃ = filled-next from (5 * n) (6 * n) 0 ws (omega arith) (omega arith) (omega arith) f₂ (at-three .fill3 .ensures) in
+    filled-next from (6 * n) (7 * n) 0 ws (omega arith) (omega arith) (omega arith) f₃ (at-four .fill4 .ensures)
+    ∙ filled-to-end from (7 * n) (5 * n - nodes) 0 ws size (omega arith)
 
 pub clear-scratch-spec : {M : Type 1} → statement M
 clear-scratch-spec =
     tie.close
     (tie.spec
+    mul-end-list
+    mul-end-list-2
+    mul-end-list-3
+    sub-end-list
+    part-end-list-start
+    part-end-list-end
+    end-list-requires
     mul-fill
     mul-fill-2
     mul-fill-3
