@@ -1,10 +1,9 @@
 -- What a map call answers and writes: refused, it leaves all as it was; accepted, both passes over the words of the nodes, and then the
 -- record. Assumes nothing.
-use Prim.Native.Nat.{ℕ, _+_, _*_, _<_}
-use mathlib.Core.List.{List, _++_}
+use Prim.Native.Nat.{ℕ, _*_, _<_}
+use mathlib.Core.List.{List}
 use mathlib.Core.Path.{_≡_, refl, sym, ap, _∙_}
-use native.Mathlib.Omega.{arith}
-use lib.ListN.{length, take, replicate}
+use lib.ListN.{length}
 use Rattle.grid.specs.Attributes.{attribute}
 use Rattle.causes.specs.Bounds.{words-a-pixel}
 use Rattle.causes.specs.declared.Cause.{Cause}
@@ -13,9 +12,7 @@ use Rattle.calls.specs.Calls.{grey, record-of, Map-call, map-verdict, map-works
 use Rattle.calls.specs.declared.Verdict.{Verdict}
 use Rattle.calls.specs.declared.Verdict.the-variants.{Accepted, Refused}
 use Rattle.calls.proofs.Accepted.{Passed, Map-passed, map-passed, bounded, Step-list, step-list}
-use Rattle.levels.specs.Workspace.{Sized}
 use Rattle.max_tree.specs.Building.{Buildable, Noded, Recordable, Recorded}
-use Rattle.max_tree.proofs.Answering.{whole}
 use Rattle.max_tree.proofs.Assembly.{rebuildable}
 use Rattle.map_passes.specs.Passes.{Ready, Written}
 use Rattle.map_passes.proofs.Climbing.{nodes-climbable}
@@ -78,20 +75,10 @@ module _ (call : Map-call) {verdict : Verdict} (judged : verdict ≡ map-verdict
         pub record-asks : Recordable (call .picture) ws₁
         record-asks = record { grid = call .grid; attribute = call .attribute; number = nodes; noded = noded }
 
-        pub clearing-asks : {ws₂ : List ℕ} → length ws₂ ≡ length ws₁ → Sized (length (call .picture)) ws₂
-        clearing-asks same = record {
-          words = omega (arith, noded .buildable .words, common .a-byte-each);
-          small = omega (arith, bounded (call .grid .width) (call .grid .height) (common .sides) .small, common .a-byte-each);
-        }
-
-        pub called-done : {ws₂ left : List ℕ} {number : ℕ} → Recorded (call .picture) ws₁ ws₂ number
-            → left ≡ take (2 * length (call .picture)) ws₂ ++ replicate (4 * length (call .picture)) 0
-            → Called call Accepted left residue index
+        pub called-done : {left : List ℕ} {number : ℕ} → Recorded (call .picture) ws₁ left number → Called call Accepted left residue index
         unfolding map-workspace map-residue map-index
-        called-done {left = left} recorded cleared =
+        called-done recorded =
             let is : map-verdict call ≡ Accepted = sym judged ∙ accepted in
             let fits = bounded (call .grid .width) (call .grid .height) (common .sides) in
             let maps = written .maps (call .grid) (call .attribute) (fits .wide) (fits .small) (common .a-byte-each) (built .nodes) in
-            let cleaned : left ≡ record-of (call .grid) (call .attribute) (call .picture) =
-            whole _ (common .a-byte-each) (recorded .ordered (call .grid) (call .attribute) nodes noded) cleared .left in
-            rw is (refl, (cleaned, (maps .0, maps .1)))
+            rw is (refl, (recorded .whole (call .grid) (call .attribute) nodes noded .left, (maps .0, maps .1)))

@@ -44,8 +44,7 @@ pub fn map(
         calls::Verdict::Accepted => {
             let nodes = max_tree::build_nodes(picture, grid, attribute, workspace);
             map_passes::write_maps(picture, steps, nodes, workspace, residue, index);
-            max_tree::write_ordered(picture, workspace);
-            max_tree::clear_scratch(picture.len(), workspace);
+            max_tree::write_whole(picture, workspace);
             return calls::Verdict::Accepted;
         }
     }

@@ -4,7 +4,7 @@ use denote.Ref.{now}
 use Rattle.causes.specs.declared.Cause.the-variants.{Steps, Workspace, Output}
 use Rattle.calls.specs.Calls.{Map-call, map-verdict}
 use Rattle.calls.proofs.Judging.{tested}
-use Rattle.residues.proofs.Mapping.{called-refused, build-asks, passes-ask, record-asks, clearing-asks, called-done}
+use Rattle.residues.proofs.Mapping.{called-refused, build-asks, passes-ask, record-asks, called-done}
 use borrow.Author.Needs.{needs}
 use Rattle.residues.proofs.map.Statement.{statement}
 use Rattle.residues.proofs.map.Tie as tie
@@ -90,8 +90,8 @@ write-maps-requires c κs =
     passes-ask (call at) (judged at) (told .enum-told .given .1) (built .build-nodes .ensures)
     (λ q. lent .shared-slice-known .given q .fits)
 
-write-ordered-requires : tie.Need-write-ordered-requires
-write-ordered-requires c κs =
+write-whole-requires : tie.Need-write-whole-requires
+write-whole-requires c κs =
     let written = c .before .before .before .before .before .before .before in
     let built = written .before .before .before .before .before .before in
     let told = built .before .before in
@@ -100,19 +100,6 @@ write-ordered-requires c κs =
     (told .enum-told .given .1)
     (built .build-nodes .ensures)
     (written .write-maps .ensures)
-
-clear-scratch-requires : tie.Need-clear-scratch-requires
-clear-scratch-requires c κs =
-    let recorded = c .before .before .before in
-    let written = recorded .before .before .before .before .before .before .before .before in
-    let built = written .before .before .before .before .before .before in
-    let told = built .before .before in
-    let at = told .before .before in
-    clearing-asks (call at) (judged at)
-    (told .enum-told .given .1)
-    (built .build-nodes .ensures)
-    (written .write-maps .ensures)
-    (recorded .write-ordered .kept .1 .0)
 
 same-length : tie.Need-same-length
 same-length c = search needs
@@ -125,8 +112,7 @@ same-length-3 c = search needs
 
 returns-2 : tie.Need-returns-2
 returns-2 c =
-    let cleared = c .before .before in
-    let recorded = cleared .before .before .before .before in
+    let recorded = c .before .before in
     let written = recorded .before .before .before .before .before .before .before .before in
     let built = written .before .before .before .before .before .before in
     let told = built .before .before in
@@ -135,8 +121,7 @@ returns-2 c =
     (told .enum-told .given .1)
     (built .build-nodes .ensures)
     (written .write-maps .ensures)
-    (recorded .write-ordered .ensures)
-    (cleared .clear-scratch .ensures)
+    (recorded .write-whole .ensures)
 
 pub map-spec : {M : Type 1} → statement M
 map-spec =
@@ -156,8 +141,7 @@ map-spec =
     enum-told
     build-nodes-requires
     write-maps-requires
-    write-ordered-requires
-    clear-scratch-requires
+    write-whole-requires
     same-length
     same-length-2
     same-length-3
