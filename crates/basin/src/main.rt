@@ -69,10 +69,10 @@ fn listing(picture: &[u8], width: u32, residue: &[u8], index: &[u16])
     }
 }
 
-fn words() -> [u32; 12288]
+fn words() -> [u32; 14336]
     ensures { λ r. ⌜ words-a-pixel * most-sized ≡ length r ⌝ }
 {
-    [0; 12288]
+    [0; 14336]
 }
 
 fn residues_room() -> [u8; 2048]

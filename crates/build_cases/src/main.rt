@@ -14,7 +14,7 @@ fn answer(built: calls::Built) {
 }
 
 fn left(workspace: &[u32]) {
-    if 300 < workspace.len() {
+    if 350 < workspace.len() {
         printing::number(b"\t words ", workspace.len() as u64);
         return;
     }
@@ -49,7 +49,7 @@ fn builds(
 // One line of the table: the name, the picture, the call's numbers, and how many words it is lent.
 fn case(line: &[u8]) {
     let mut greys = [0u8; 256];
-    let mut workspace = [7u32; 1536];
+    let mut workspace = [7u32; 1792];
     builds(
         table::field(line, 0),
         table::bytes(line, 1, &mut greys),
@@ -69,11 +69,11 @@ fn each(lines: &[u8]) {
     }
 }
 
-// 6 words for each of 4,096 pixels.
-fn room() -> [u32; 24576]
-    ensures { λ r. ⌜ 24576 ≡ length r ⌝ }
+// 7 words for each of 4,096 pixels.
+fn room() -> [u32; 28672]
+    ensures { λ r. ⌜ 28672 ≡ length r ⌝ }
 {
-    [7; 24576]
+    [7; 28672]
 }
 
 // The second call is lent what the first left.

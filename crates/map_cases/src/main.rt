@@ -44,7 +44,7 @@ fn maps(
 fn case(line: &[u8]) {
     let mut greys = [0u8; 25];
     let mut thresholds = [0u32; 257];
-    let mut workspace = [7u32; 150];
+    let mut workspace = [7u32; 175];
     let mut residue = [8u8; 25];
     let mut index = [9u16; 25];
     maps(

@@ -7,7 +7,7 @@ use grid::Grid;
 // One line of the table: the name, the picture, the call's numbers, and how many words and entries it is lent.
 fn case(line: &[u8]) {
     let mut greys = [0u8; 25];
-    let mut workspace = [7u32; 150];
+    let mut workspace = [7u32; 175];
     let mut output = [9u8; 25];
     let picture = table::bytes(line, 1, &mut greys);
     let width = table::number(line, 2);
