@@ -15,27 +15,28 @@ use Rattle.grid.specs.Attributes.{extent, side, visible, on-frame, attribute}
 use Rattle.opening.specs.Opening.{component-at, least-grey, Keeps, at-least, highest-above, opened-by}
 use Rattle.opening.specs.Residue.{falls-from, largest, last-place, largest-place, threshold-tests, openings-by, residue-by, index-by}
 use Rattle.tree.specs.Tree.{lowest-own, representative, node-below, parent-representative, is-representative, number-of-nodes}
-use Rattle.tree.specs.Tree.{parent-word, attribute-word, parents, attributes, workspace}
+use Rattle.tree.specs.Tree.{parent-word, attribute-word, parents, attributes, put, by-level, listing, workspace}
 use Rattle.calls.specs.Judging.{attribute-good, neighbours-good, also}
 use Rattle.calls.specs.Calls.{grey, record-of, built, opened-picture, residue-map, index-map}
 use Rattle.calls.specs.declared.Built.the-variants.{Nodes}
-use Rattle.small_pictures.specs.Table.{ringed-P, parents-P, attributes-P, building-P, Starred}
+use Rattle.small_pictures.specs.Table.{ringed-P, parents-P, attributes-P, nodes-P, building-P, Starred}
 
 -- the neighbours in P
 abbrev near : Adjacency
 near = adjacent (grid-of 7 3 4)
 
-record-is : record-of (grid-of 7 3 4) 1 ringed-P ≡ parents-P ++ attributes-P ++ replicate 84 0
+record-is : record-of (grid-of 7 3 4) 1 ringed-P ≡ parents-P ++ attributes-P ++ nodes-P ++ replicate 84 0
 unfolding adjacent some-in count table-from table gather seed grow grown component visible on-frame attribute component-at lowest-own
-    representative node-below parent-representative is-representative parent-word attribute-word parents attributes workspace
-record-is = refl {a = parents-P ++ attributes-P ++ replicate 84 0}
+    representative node-below parent-representative is-representative parent-word attribute-word parents attributes
+    number-of-nodes put by-level listing workspace
+record-is = refl {a = parents-P ++ attributes-P ++ nodes-P ++ replicate 84 0}
 
 nodes-are : number-of-nodes 21 near (grey ringed-P) ≡ 4
 unfolding adjacent some-in count table-from table gather seed grow grown component component-at lowest-own representative is-representative
     number-of-nodes
 nodes-are = refl {A = ℕ} {a = 4}
 
-built-is : (lent : List ℕ) → length lent ≡ 126 → built (building-P lent) ≡ Nodes 4
+built-is : (lent : List ℕ) → length lent ≡ 147 → built (building-P lent) ≡ Nodes 4
 unfolding also attribute-good neighbours-good built
 built-is lent size = rw (size, nodes-are)
 

@@ -35,6 +35,10 @@ attributes-P =
     ++ (0 ∷ 0 ∷ 1 ∷ 3 ∷ 1 ∷ 0 ∷ 0 ∷ [])
     ++ (0 ∷ 0 ∷ 0 ∷ 0 ∷ 0 ∷ 0 ∷ 0 ∷ [])
 
+-- and by request E8 its nodes, "by rising level": 10, 20, 30 and 50, "and zeros after the last"
+abbrev pub nodes-P : List ℕ
+nodes-P = (0 ∷ 10 ∷ 9 ∷ 11 ∷ []) ++ replicate 17 0
+
 -- two rows, 9 0 and 0 9, in their ring, 4 by 4
 abbrev pub ringed-Q : List ℕ
 ringed-Q = ringed 0 2 ((9 ∷ 0 ∷ []) ∷ (0 ∷ 9 ∷ []) ∷ [])
@@ -45,9 +49,9 @@ building-P lent = record { picture = ringed-P; grid = grid-of 7 3 4; attribute =
 
 pub record Starred : Type 0 where
   -- "P, area: parents 0 2 0 2 0, attributes 5 1 3 1 0, 4 nodes.", worked out again: positions move, and the root has the frame's attribute.
-  -- The record's other four parts are zero, and a building call that is lent 126 words answers the number.
-  pub tree-record : record-of (grid-of 7 3 4) 1 ringed-P ≡ parents-P ++ attributes-P ++ replicate 84 0
-  pub tree-nodes : (lent : List ℕ) → length lent ≡ 126 → built (building-P lent) ≡ Nodes 4
+  -- The record's other four parts are zero, and a building call that is lent 147 words answers the number.
+  pub tree-record : record-of (grid-of 7 3 4) 1 ringed-P ≡ parents-P ++ attributes-P ++ nodes-P ++ replicate 84 0
+  pub tree-nodes : (lent : List ℕ) → length lent ≡ 147 → built (building-P lent) ≡ Nodes 4
   -- "P, area, steps 1 2 3 4: residue 0 10 10 30 0, index 0 4 4 2 0."
   pub steps-1-2-3-4-residue : residue-map (grid-of 7 3 4) 1 (1 ∷ 2 ∷ 3 ∷ 4 ∷ []) ringed-P ≡ ringed 0 5 ((0 ∷ 10 ∷ 10 ∷ 30 ∷ 0 ∷ []) ∷ [])
   pub steps-1-2-3-4-index : index-map (grid-of 7 3 4) 1 (1 ∷ 2 ∷ 3 ∷ 4 ∷ []) ringed-P ≡ ringed 0 5 ((0 ∷ 4 ∷ 4 ∷ 2 ∷ 0 ∷ []) ∷ [])

@@ -99,7 +99,7 @@ module _ (n : ℕ) (adj : Adjacency) (g : ℕ → ℕ) where
         (parent-found n adj symm g p)
 
     -- there is a node
-    some-node : 0 < n → 0 < nodes
+    pub some-node : 0 < n → 0 < number-of-nodes n adj g
     unfolding is-representative
     some-node b =
         let r : ℕ = representative n adj g 0 in
