@@ -9,6 +9,7 @@
  * Without a number of neighbours there is a table for each.
  */
 #include "bench.h"
+#include "teldruf.h"
 
 #include <stdio.h>
 #include <stdlib.h>
@@ -62,7 +63,7 @@ static double timed(int way, int part, const picture_t *picture, uint32_t attrib
 }
 
 static int agree(const result_t *a, const result_t *b) {
-    return a->nodes == b->nodes && memcmp(a->ws, b->ws, 6 * PIXELS * sizeof *a->ws) == 0 &&
+    return a->nodes == b->nodes && memcmp(a->ws, b->ws, TELDRUF_WORDS_A_PIXEL * PIXELS * sizeof *a->ws) == 0 &&
            memcmp(a->output, b->output, PIXELS) == 0 && memcmp(a->residue, b->residue, PIXELS) == 0 &&
            memcmp(a->index, b->index, PIXELS * sizeof *a->index) == 0;
 }

@@ -1,4 +1,4 @@
-/* What the parts of the benchmark share. The workspace is the library's: 6n words, parents, attributes, the list of the
+/* What the parts of the benchmark share. The workspace is the library's: 7n words, parents, attributes, the list of the
    representatives, and scratch. */
 #ifndef BENCH_H
 #define BENCH_H
@@ -61,7 +61,7 @@ uint32_t flood(const picture_t *picture, uint32_t *ws);
 /* Building and opening, the same for both. */
 uint32_t c_build(record_fn *record, const picture_t *picture, uint32_t attribute, uint32_t *ws);
 void c_open(record_fn *record, const picture_t *picture, uint32_t attribute, uint32_t threshold, uint32_t *ws, uint8_t *output);
-void clear(const picture_t *picture, uint32_t *ws);
+void clear(const picture_t *picture, uint32_t nodes, uint32_t *ws);
 
 /* The maps: after the flood by the numbers of the nodes, after union-find by the list of the representatives. */
 typedef void map_fn(const picture_t *picture, uint32_t attribute, const uint32_t *steps, size_t count, uint32_t *ws, uint8_t *residue,

@@ -1,5 +1,6 @@
 /* What the programs of the benchmark share: the steps, the memory, the clock. */
 #include "bench.h"
+#include "teldruf.h"
 
 #include <stdlib.h>
 #include <string.h>
@@ -22,7 +23,7 @@ static void *touched(size_t bytes) {
 }
 
 result_t lend(void) {
-    return (result_t){touched(6 * PIXELS * sizeof(uint32_t)), touched(PIXELS), touched(PIXELS), touched(PIXELS * sizeof(uint16_t)), 0};
+    return (result_t){touched(TELDRUF_WORDS_A_PIXEL * PIXELS * sizeof(uint32_t)), touched(PIXELS), touched(PIXELS), touched(PIXELS * sizeof(uint16_t)), 0};
 }
 
 double milliseconds(void) {

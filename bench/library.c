@@ -6,11 +6,11 @@
 #include "teldruf.h"
 
 uint64_t LIBRARY_CALL(int part, const picture_t *p, uint32_t attribute, result_t *r) {
-    size_t n = (size_t)p->width * p->height;
+    size_t n = (size_t)p->width * p->height, words = TELDRUF_WORDS_A_PIXEL * n;
     if (part == BUILD)
-        return teldruf_build(p->greys, n, p->width, p->height, attribute, p->neighbours, r->ws, 6 * n);
+        return teldruf_build(p->greys, n, p->width, p->height, attribute, p->neighbours, r->ws, words);
     if (part == OPENING)
-        return teldruf_open(p->greys, n, p->width, p->height, attribute, p->neighbours, THRESHOLD, r->ws, 6 * n, r->output, n);
-    return teldruf_map(p->greys, n, p->width, p->height, attribute, p->neighbours, steps, STEPS, r->ws, 6 * n, r->residue, n,
+        return teldruf_open(p->greys, n, p->width, p->height, attribute, p->neighbours, THRESHOLD, r->ws, words, r->output, n);
+    return teldruf_map(p->greys, n, p->width, p->height, attribute, p->neighbours, steps, STEPS, r->ws, words, r->residue, n,
                        r->index, n);
 }

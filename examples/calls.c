@@ -46,6 +46,7 @@ int main(void) {
     printf("nodes %u\n", (unsigned)nodes);
     words("parents", workspace, N);
     words("attributes", workspace + N, N);
+    words("from root to leaf", workspace + 2 * N, (size_t)nodes);
 
     uint64_t opened = teldruf_open(picture, N, head[0], head[1], TELDRUF_AREA, TELDRUF_EDGES, 2, workspace,
                                    TELDRUF_WORDS_A_PIXEL * N, output, N);

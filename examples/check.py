@@ -10,6 +10,7 @@ import sys
 import tempfile
 import unittest
 import zlib
+from random import Random
 
 HERE = os.path.dirname(os.path.abspath(__file__))
 sys.path.insert(0, os.path.join(HERE, os.pardir, "python"))
@@ -40,6 +41,7 @@ GREYS = bytes(ringed(10, [10, 30, 20, 50, 10]))
 ROW = Picture(7, 3, 255, GREYS)
 FILE = b"P5\n7 3\n255\n" + GREYS
 PARENTS, ATTRIBUTES, NODES = ringed(0, [0, 10, 0, 10, 0]), [FRAME] + ringed(0, [0, 1, 3, 1, 0])[1:], 4
+REPRESENTATIVES = [0, 10, 9, 11]
 OPENED_AT_2 = bytes(ringed(10, [10, 20, 20, 20, 10]))
 RESIDUE, INDEX = bytes(ringed(0, [0, 10, 10, 30, 0])), ringed(0, [0, 4, 4, 2, 0])
 
@@ -71,6 +73,7 @@ class Module(unittest.TestCase):
                 self.assertEqual(teldruf.write(picture), FILE)
                 tree = teldruf.build(picture)
                 self.assertEqual((tree.nodes, list(tree.parents), list(tree.attributes)), (NODES, PARENTS, ATTRIBUTES))
+                self.assertEqual(list(tree.representatives), REPRESENTATIVES)
                 opened = teldruf.open(picture, 2)
                 self.assertEqual(opened, OPENED_AT_2 if picture is rows else ROW._replace(raster=OPENED_AT_2))
                 maps = teldruf.map(picture, [1, 2, 3, 4])
@@ -90,6 +93,20 @@ class Module(unittest.TestCase):
                 self.assertEqual(teldruf.open(row, FRAME, attribute), row)
                 maps = teldruf.map(row, [2, FRAME], attribute)
                 self.assertEqual((maps.residue, list(maps.index)), (bytes(5), [0] * 5))
+
+    def test_the_representatives_stand_from_root_to_leaf(self):
+        for raster, expected in (b"\x05\x03\x00", [2, 1, 0]), (b"\x05\x00\x00", [1, 0]), (b"\x00\x07\x04", [0, 2, 1]), (bytes(3), [0]):
+            tree = teldruf.build(Picture(3, 1, 255, raster))
+            self.assertEqual((tree.nodes, list(tree.representatives)), (len(expected), expected))
+        random = Random(8)
+        for _ in range(50):
+            width, height = random.randint(1, 9), random.randint(1, 9)
+            greys = bytes(random.randint(0, 5) for _ in range(width * height))
+            tree = teldruf.build(Picture(width, height, 255, greys), neighbours=random.choice((4, 8)))
+            own = [p for p, attribute in enumerate(tree.attributes) if attribute]
+            self.assertEqual(list(tree.representatives), sorted(own, key=lambda p: (greys[p], p)))
+            places = {p: i for i, p in enumerate(tree.representatives)}
+            self.assertEqual([p for p in own if places[tree.parents[p]] >= places[p]], [tree.representatives[0]])
 
     def test_corners_join_with_8_neighbours(self):
         for neighbours, (tree, opened, maps) in BY_NEIGHBOURS.items():
@@ -180,6 +197,8 @@ class Module(unittest.TestCase):
                                         (opened, "uint8", list(OPENED_AT_2)), (maps.residue, "uint8", list(RESIDUE)),
                                         (maps.index, "uint16", INDEX)]:
                 self.assertEqual((got.dtype.name, got.shape, got.ravel().tolist()), (kind, (3, 7), expected))
+            got = tree.representatives
+            self.assertEqual((got.dtype.name, got.shape, got.tolist()), ("uint32", (4,), REPRESENTATIVES))
             self.assertEqual(teldruf.write(image), FILE)
         self.assertEqual(teldruf.map(row.T, [6]).residue.shape, (7, 3))
         for bad in row.astype(float), row.astype(bool), row.astype("uint16"), row[0], numpy.array(3, numpy.uint8):
@@ -231,6 +250,20 @@ class Hosts(unittest.TestCase):
             subprocess.run([*host, self.picture, *self.out, "area", "1", "2", "3", "4"], check=True)
             index = b"".join(i.to_bytes(2, "big") for i in INDEX)
             self.assertEqual(self.contents(), [b"P5\n7 3\n255\n" + RESIDUE, b"P5\n7 3\n256\n" + index])
+
+    def test_the_representatives_stand_from_root_to_leaf(self):
+        for raster, expected in (b"\x05\x03\x00", [2, 1, 0]), (b"\x05\x00\x00", [1, 0]), (b"\x00\x07\x04", [0, 2, 1]), (bytes(3), [0]):
+            tree = teldruf.build(Picture(3, 1, 255, raster))
+            self.assertEqual((tree.nodes, list(tree.representatives)), (len(expected), expected))
+        random = Random(8)
+        for _ in range(50):
+            width, height = random.randint(1, 9), random.randint(1, 9)
+            greys = bytes(random.randint(0, 5) for _ in range(width * height))
+            tree = teldruf.build(Picture(width, height, 255, greys), neighbours=random.choice((4, 8)))
+            own = [p for p, attribute in enumerate(tree.attributes) if attribute]
+            self.assertEqual(list(tree.representatives), sorted(own, key=lambda p: (greys[p], p)))
+            places = {p: i for i, p in enumerate(tree.representatives)}
+            self.assertEqual([p for p in own if places[tree.parents[p]] >= places[p]], [tree.representatives[0]])
 
     def test_corners_join_with_8_neighbours(self):
         picture = self.file("corners.pgm", CORNERS_FILE)

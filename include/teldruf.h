@@ -59,7 +59,7 @@ enum {
     TELDRUF_MOST_PIXELS = 1048576,
     TELDRUF_MOST_THRESHOLD = 1048577,
     TELDRUF_MOST_STEPS = 256,
-    TELDRUF_WORDS_A_PIXEL = 6
+    TELDRUF_WORDS_A_PIXEL = 7
 };
 
 /* The number of the cause in an answer, 0 if the call was accepted. */
@@ -81,7 +81,7 @@ static inline const char *teldruf_cause_text(uint32_t number) {
     case TELDRUF_STEPS:
         return "threshold outside 1 to 1,048,577, or step list empty, over 256 or not strictly rising";
     case TELDRUF_WORKSPACE:
-        return "workspace not 6 words a pixel";
+        return "workspace not 7 words a pixel";
     case TELDRUF_OUTPUT_LENGTH:
         return "an output not one entry a pixel";
     case TELDRUF_BUFFER:
@@ -120,10 +120,12 @@ uint64_t teldruf_write_pgm(const uint8_t *picture, size_t picture_len, uint32_t 
 
 /*
  * Builds the max-tree of a picture; the neighbours named decide what is connected. Lent: the picture, n bytes, which are only read;
- * and the workspace, exactly 6n words, which may hold anything. Accepted: the answer is the number of nodes, and the workspace holds
- * the record: n parents, n attributes, 4n zeros. A node is represented by its own pixel of lowest position. A representative's
- * parent is the position of its parent's representative (the root's is its own) and its attribute is the node's; any other pixel's
- * parent is its representative and its attribute is 0. Refused, in this order: 1, 2, 3, 17, 5.
+ * and the workspace, exactly 7n words, which may hold anything. Accepted: the answer is the number of nodes, and the workspace holds
+ * the record: n parents, n attributes, the list of the nodes in n words, 4n zeros. A node is represented by its own pixel of lowest
+ * position. A representative's parent is the position of its parent's representative (the root's is its own) and its attribute is the
+ * node's; any other pixel's parent is its representative and its attribute is 0. The list has the representatives by rising level,
+ * lower position first within a level, as many as the answer says, and zeros after the last: the root comes first, and every parent
+ * before its children. Position 0 may be among them. Refused, in this order: 1, 2, 3, 17, 5.
  */
 uint64_t teldruf_build(const uint8_t *picture, size_t picture_len, uint32_t width, uint32_t height, uint32_t attribute,
                        uint32_t neighbours, uint32_t *workspace, size_t workspace_len);
@@ -131,7 +133,7 @@ uint64_t teldruf_build(const uint8_t *picture, size_t picture_len, uint32_t widt
 /*
  * Opens a picture at a threshold from 1 to 1,048,577: a node other than the root goes if its attribute is below the threshold; the
  * nodes are those that building finds with the same neighbours. Lent: the picture, n bytes, which are only read; the workspace,
- * exactly 6n words; and the output, exactly n bytes. Both may hold anything. Accepted: the answer is 0, the output holds the opened
+ * exactly 7n words; and the output, exactly n bytes. Both may hold anything. Accepted: the answer is 0, the output holds the opened
  * picture and the workspace the record of the picture given. Refused, in this order: 1, 2, 3, 17, 4, 5, 6.
  */
 uint64_t teldruf_open(const uint8_t *picture, size_t picture_len, uint32_t width, uint32_t height, uint32_t attribute,
@@ -140,7 +142,7 @@ uint64_t teldruf_open(const uint8_t *picture, size_t picture_len, uint32_t width
 
 /*
  * Gives the residue map and the index map of a picture for a list of 1 to 256 strictly rising steps, each from 1 to 1,048,577. Lent:
- * the picture, n bytes, and the steps, both only read; the workspace, exactly 6n words; the residue map, exactly n bytes; and the
+ * the picture, n bytes, and the steps, both only read; the workspace, exactly 7n words; the residue map, exactly n bytes; and the
  * index map, exactly n entries of 16 bits. The last three may hold anything. Accepted: the answer is 0, the residue map holds at
  * each pixel the largest fall from one opening with these neighbours to the next, the index map the largest place in the list, from
  * 1, of a step with that fall, or 0 where it is 0, and the workspace the record of the picture. Refused, in this order: 1, 2, 3, 17,

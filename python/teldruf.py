@@ -37,7 +37,7 @@ _CAUSES = {
     2: "picture bytes not width x height",
     3: "attribute not 1, 2 or 3 (area, height or width)",
     4: "threshold outside 1 to 1,048,577, or step list empty, over 256 or not strictly rising",
-    5: "workspace not 6 words a pixel",
+    5: "workspace not 7 words a pixel",
     6: "an output not one entry a pixel",
     7: "the writer's buffer shorter than the file",
     8: "the file does not start with P5, so it is no binary PGM",
@@ -49,7 +49,7 @@ _CAUSES = {
 }
 
 _MOST_PIXELS = 1048576
-_WORDS_A_PIXEL = 6
+_WORDS_A_PIXEL = 7
 _MOST_HEADER = 17  # bytes that the writer puts before the raster
 
 
@@ -80,11 +80,13 @@ class Picture(NamedTuple):
 
 
 class Tree(NamedTuple):
-    """A max-tree: its number of nodes, and two words a pixel, as teldruf_build of include/teldruf.h says."""
+    """A max-tree: its number of nodes, two words a pixel, as teldruf_build of include/teldruf.h says, and the representatives of the
+    nodes from the root to the leaves: every parent stands before its children."""
 
     nodes: int
     parents: Any
     attributes: Any
+    representatives: Any
 
 
 class Maps(NamedTuple):
@@ -112,13 +114,14 @@ def write(picture):
 
 
 def build(picture, attribute="area", *, neighbours=4):
-    """The max-tree of a picture: a Tree of its number of nodes, parents and attributes."""
+    """The max-tree of a picture: a Tree of its number of nodes, parents, attributes and representatives."""
     picture, greys = _taken(picture)
     workspace = _workspace(greys)
     nodes = _call("build", *_lend(greys), picture.width, picture.height, _attribute(attribute), _neighbours(neighbours),
                   *_lend(workspace))
     n = len(greys)
-    return Tree(nodes, _like(picture.raster, workspace[:n]), _like(picture.raster, workspace[n:2 * n]))
+    return Tree(nodes, _like(picture.raster, workspace[:n]), _like(picture.raster, workspace[n:2 * n]),
+                _kind(picture.raster, workspace[2 * n:2 * n + nodes]))
 
 
 def open(picture, threshold, attribute="area", *, neighbours=4):
@@ -220,12 +223,18 @@ def _lend(memory):
     return start or _SOMEWHERE.buffer_info()[0], entries
 
 
-def _like(raster, entries):
-    """What a call wrote, as the raster came: a numpy array of the same shape, or bytes, or an array of larger entries."""
+def _kind(raster, entries):
+    """What a call wrote, in the raster's kind: a numpy array, or bytes, or an array of larger entries."""
     numpy = sys.modules.get("numpy")
     if numpy is not None and isinstance(raster, numpy.ndarray):
-        return numpy.asarray(entries).reshape(raster.shape)
+        return numpy.asarray(entries)
     return entries.tobytes() if entries.typecode == "B" else entries
+
+
+def _like(raster, entries):
+    """What a call wrote for each pixel, as the raster came: a numpy array has its shape."""
+    entries = _kind(raster, entries)
+    return entries.reshape(raster.shape) if hasattr(entries, "reshape") else entries
 
 
 _CHECKOUT = os.path.join(os.path.dirname(os.path.abspath(__file__)), os.pardir, "target", "libteldruf.so")
