@@ -2,8 +2,9 @@
 use Prim.Native.Nat.{ℕ, zero, suc, _+_, _-_, _*_, _/_, _%_, _≤_, _<_}
 use mathlib.Core.Bool.{Bool, true, false, cond}
 use mathlib.Core.Logic.{⊎-elim}
-use mathlib.Core.Path.{_≡_, refl}
+use mathlib.Core.Path.{_≡_, refl, _∙_}
 use native.Mathlib.Omega.{arith}
+use lib.Bits.{bitAnd, and-zero-r, and-mask}
 use lib.Dec.{eqb}
 use borrow.Author.Tests.{eqb-true, eqb-false}
 use Rattle.sets.proofs.Tests.{decided}
@@ -33,6 +34,15 @@ step-chosen {a} {b} {one} la lb =
 
 pub step-below : {a b one : ℕ} → a < 4294967296 → b < 4294967296 → one ≤ 1 → b + (4294967296 + a - b) * one < 8589934592
 step-below {a} {b} {one} la lb = zero-or-one (λ (i : ℕ). b + (4294967296 + a - b) * i < 8589934592) (omega arith) (omega arith) one
+
+-- a word under a mask of 32 ones, or of none
+pub mask-kept : {a one : ℕ} → a < 4294967296 → one ≤ 1 → bitAnd a ((4294967296 - one) % 4294967296) ≡ cond (eqb one 1) a 0
+mask-kept {a} {one} la =
+    zero-or-one
+    (λ (i : ℕ). bitAnd a ((4294967296 - i) % 4294967296) ≡ cond (eqb i 1) a 0)
+    (and-zero-r a)
+    (and-mask a 32 ∙ omega arith)
+    one
 
 pub bit-most : (t : Bool) → bit t ≤ 1
 bit-most true = omega arith

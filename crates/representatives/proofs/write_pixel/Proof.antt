@@ -83,8 +83,8 @@ mul-ws c = search needs
 slice-write-ws : tie.Need-slice-write-ws
 slice-write-ws c = search needs
 
-chosen-requires-2 : tie.Need-chosen-requires-2
-chosen-requires-2 c κs =
+kept-requires : tie.Need-kept-requires
+kept-requires c κs =
     let start = c .before .before .before .before .before .before .before .before in
     one-most (start .pre) (c .before .one-if-same .ensures)
 
@@ -124,7 +124,7 @@ returns c =
     let at-one = c .before .before in
     let start = at-one .before .before .before .before .before .before .before in
     let one = at-one .one-if-same .ensures in
-    (one, stored-at (start .pre) one (c .before .chosen .ensures) (c .chosen2 .ensures))
+    (one, stored-at (start .pre) one (c .before .chosen .ensures) (c .kept .ensures))
 
 pub write-pixel-spec : {M : Type 1} → statement M
 write-pixel-spec =
@@ -155,7 +155,7 @@ write-pixel-spec =
     chosen-requires
     mul-ws
     slice-write-ws
-    chosen-requires-2
+    kept-requires
     add-ws
     mul-ws-2
     slice-write-ws-2
