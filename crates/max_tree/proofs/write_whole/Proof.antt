@@ -5,6 +5,16 @@ use borrow.Author.Needs.{needs}
 use Rattle.max_tree.proofs.write_whole.Statement.{statement}
 use Rattle.max_tree.proofs.write_whole.Tie as tie
 
+returns : tie.Need-returns
+returns c =
+    let at-clear = c .before .before in
+    let at-sort = at-clear .before .before .before .before in
+    let at-record = at-sort .before .before .before .before in
+    record {
+      whole = λ grid a m D.
+          whole D (at-record .write-record .ensures) (at-sort .sort-by-level .ensures) (at-clear .clear-scratch .ensures);
+    }
+
 write-record-requires : tie.Need-write-record-requires
 write-record-requires c κs = record-asked (c .before .before .before .pre .noded)
 
@@ -28,16 +38,6 @@ cast-result c =
 
 same-length : tie.Need-same-length
 same-length c = search needs
-
-returns : tie.Need-returns
-returns c =
-    let at-clear = c .before .before in
-    let at-sort = at-clear .before .before .before .before in
-    let at-record = at-sort .before .before .before .before in
-    record {
-      whole = λ grid a m D.
-          whole D (at-record .write-record .ensures) (at-sort .sort-by-level .ensures) (at-clear .clear-scratch .ensures);
-    }
 
 pub write-whole-spec : {M : Type 1} → statement M
 write-whole-spec =

@@ -6,6 +6,13 @@ use borrow.Author.Needs.{needs}
 use Rattle.representatives.proofs.write_pixel.Statement.{statement}
 use Rattle.representatives.proofs.write_pixel.Tie as tie
 
+returns : tie.Need-returns
+returns c =
+    let at-one = c .before .before in
+    let start = at-one .before .before .before .before .before .before .before in
+    let one = at-one .one-if-same .ensures in
+    (one, stored-at (start .pre) one (c .before .chosen .ensures) (c .kept .ensures))
+
 mul-node : tie.Need-mul-node
 mul-node c = search needs
 
@@ -118,13 +125,6 @@ slice-write-ws-3 c =
 
 same-length : tie.Need-same-length
 same-length c = search needs
-
-returns : tie.Need-returns
-returns c =
-    let at-one = c .before .before in
-    let start = at-one .before .before .before .before .before .before .before in
-    let one = at-one .one-if-same .ensures in
-    (one, stored-at (start .pre) one (c .before .chosen .ensures) (c .kept .ensures))
 
 pub write-pixel-spec : {M : Type 1} → statement M
 write-pixel-spec =
