@@ -1,7 +1,7 @@
 -- What a viewer finds in the record that every accepted call leaves, by its words alone: part 3 has the nodes from the root to the leaves.
 -- Assumes that the sides fit.
 use Prim.Native.Nat.{ℕ, _+_, _*_, _≤_, _<_}
-use mathlib.Core.Bool.{Bool, true, cond}
+use mathlib.Core.Bool.{Bool, cond}
 use mathlib.Core.List.{List}
 use mathlib.Core.Logic.{⊎-elim}
 use mathlib.Core.Path.{_≡_, refl, sym, ap, _∙_}

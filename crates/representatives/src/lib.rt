@@ -6,8 +6,8 @@ ghost use lib.Dec.{eqb};
 ghost use Rattle.causes.specs.Bounds.{most-pixels};
 ghost use Rattle.representatives.specs.Representatives.{Writable, is-lowest, written-at, Representable, Represented};
 
-// 1 if low is q, which is not below it, else 0. Here, in `chosen` and in `kept` there is arithmetic in place of an `if`, since a choice that depends
-// on a load must not become a branch: the loads would follow it, and no processor can guess which pixels are representatives.
+// 1 if low is q, which is not below it, else 0. Here, in `chosen` and in `kept` there is arithmetic in place of an `if`, since a choice
+// that depends on a load must not become a branch: the loads would follow it, and no processor can guess which pixels are representatives.
 fn one_if_same(low: usize, q: usize) -> usize
     requires { ⌜ low ≤ q ⌝ }
     requires { ⌜ q ≤ most-pixels ⌝ }

@@ -8,7 +8,7 @@ use Rattle.grid.specs.Attributes.{attribute}
 use Rattle.causes.specs.Bounds.{words-a-pixel}
 use Rattle.causes.specs.declared.Cause.{Cause}
 use Rattle.calls.specs.Judging.{verdict-numbers}
-use Rattle.calls.specs.Calls.{grey, record-of, Map-call, map-verdict, map-workspace, map-residue, map-index}
+use Rattle.calls.specs.Calls.{grey, Map-call, map-verdict, map-workspace, map-residue, map-index}
 use Rattle.calls.specs.declared.Verdict.{Verdict}
 use Rattle.calls.specs.declared.Verdict.the-variants.{Accepted, Refused}
 use Rattle.calls.proofs.Accepted.{Passed, Map-passed, map-passed, bounded, Step-list, step-list}

@@ -1,17 +1,13 @@
 -- The list of the nodes: it has the representatives, by level, and zeros after the last. The root comes first and every parent before
 -- its children. Assumes that neighbours are mutual and, where the root is the only one, that the picture is one component.
-use Prim.Native.Nat.{ℕ, zero, suc, _+_, _-_, _≤_, _<_}
-use mathlib.Core.Bool.{true}
+use Prim.Native.Nat.{ℕ, _+_, _-_, _≤_, _<_}
 use mathlib.Core.List.{List, _++_}
 use mathlib.Core.Logic.{_⊎_, inl, inr, ⊎-elim}
 use mathlib.Core.Path.{_≡_, refl, sym, ap, _∙_}
 use native.Mathlib.Omega.{arith}
-use lib.Dec.{eqb}
 use lib.ListN.{length, getD, replicate, length-append, length-replicate, getD-replicate, List·getD-append}
 use lib.Seq.{getD-append-add}
 use borrow.Author.Tests.{eqb-true, eq-eqb}
-use Rattle.sets.specs.Sets.{count}
-use Rattle.sets.proofs.Tests.{le-or-lt}
 use Rattle.sets.proofs.Laws.{count-le}
 use Rattle.connected.specs.Component.{Adjacency, Symmetric}
 use Rattle.opening.specs.Opening.{least-grey}
@@ -19,7 +15,7 @@ use Rattle.tree.specs.Tree.{representative, parent-representative, is-re
 use Rattle.tree.specs.Listing.{Listed}
 use Rattle.tree.proofs.Together.{Together, together-below}
 use Rattle.tree.proofs.Representatives.{representative-below, representative-same, representative-again}
-use Rattle.tree.proofs.Parents.{Root, Found, parent-found, root-least}
+use Rattle.tree.proofs.Parents.{Root, parent-found, root-least}
 use Rattle.tree.proofs.Listing.{by-level-count, by-level-listed, listed-same, listed-once, there-or-later}
 
 module _ (n : ℕ) (adj : Adjacency) (g : ℕ → ℕ) where
