@@ -1,1 +1,1 @@
-// A list of pixels by rising level: definitions and laws only, no code.
+// A list of pixels that is filled by level: laws only, no code.
