@@ -23,7 +23,8 @@ static void *touched(size_t bytes) {
 }
 
 result_t lend(void) {
-    return (result_t){touched(TELDRUF_WORDS_A_PIXEL * PIXELS * sizeof(uint32_t)), touched(PIXELS), touched(PIXELS), touched(PIXELS * sizeof(uint16_t)), 0};
+    void *words = touched(TELDRUF_WORDS_A_PIXEL * PIXELS * sizeof(uint32_t));
+    return (result_t){words, touched(PIXELS), touched(PIXELS), touched(PIXELS * sizeof(uint16_t)), 0};
 }
 
 double milliseconds(void) {

@@ -251,20 +251,6 @@ class Hosts(unittest.TestCase):
             index = b"".join(i.to_bytes(2, "big") for i in INDEX)
             self.assertEqual(self.contents(), [b"P5\n7 3\n255\n" + RESIDUE, b"P5\n7 3\n256\n" + index])
 
-    def test_the_representatives_stand_from_root_to_leaf(self):
-        for raster, expected in (b"\x05\x03\x00", [2, 1, 0]), (b"\x05\x00\x00", [1, 0]), (b"\x00\x07\x04", [0, 2, 1]), (bytes(3), [0]):
-            tree = teldruf.build(Picture(3, 1, 255, raster))
-            self.assertEqual((tree.nodes, list(tree.representatives)), (len(expected), expected))
-        random = Random(8)
-        for _ in range(50):
-            width, height = random.randint(1, 9), random.randint(1, 9)
-            greys = bytes(random.randint(0, 5) for _ in range(width * height))
-            tree = teldruf.build(Picture(width, height, 255, greys), neighbours=random.choice((4, 8)))
-            own = [p for p, attribute in enumerate(tree.attributes) if attribute]
-            self.assertEqual(list(tree.representatives), sorted(own, key=lambda p: (greys[p], p)))
-            places = {p: i for i, p in enumerate(tree.representatives)}
-            self.assertEqual([p for p in own if places[tree.parents[p]] >= places[p]], [tree.representatives[0]])
-
     def test_corners_join_with_8_neighbours(self):
         picture = self.file("corners.pgm", CORNERS_FILE)
         for host in HOSTS:

@@ -125,7 +125,8 @@ uint64_t teldruf_write_pgm(const uint8_t *picture, size_t picture_len, uint32_t 
  * position. A representative's parent is the position of its parent's representative (the root's is its own) and its attribute is the
  * node's; any other pixel's parent is its representative and its attribute is 0. The list has the representatives by rising level,
  * lower position first within a level, as many as the answer says, and zeros after the last: the root comes first, and every parent
- * before its children. Position 0 may be among them. Refused, in this order: 1, 2, 3, 17, 5.
+ * before its children. Position 0 is always among them, at any place, so a 0 does not end the list; after teldruf_open and
+ * teldruf_map its length is the number of attributes that are not 0. Refused, in this order: 1, 2, 3, 17, 5.
  */
 uint64_t teldruf_build(const uint8_t *picture, size_t picture_len, uint32_t width, uint32_t height, uint32_t attribute,
                        uint32_t neighbours, uint32_t *workspace, size_t workspace_len);

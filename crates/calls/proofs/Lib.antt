@@ -1,6 +1,6 @@
 pub mod Openings
 pub mod Frame
-pub mod RootToLeaf
 pub mod Accepted
+pub mod RootToLeaf
 pub mod Judging
 pub mod Answers

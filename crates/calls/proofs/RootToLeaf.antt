@@ -1,5 +1,5 @@
--- What a viewer finds in the record that every accepted call leaves, by its words alone: part 3 has the nodes from the root to the leaves.
--- Assumes that the sides fit.
+-- The record of a picture has its nodes from the root to the leaves, and every accepted call leaves it. Of the record alone: assumes that the
+-- sides fit.
 use Prim.Native.Nat.{ℕ, _+_, _*_, _≤_, _<_}
 use mathlib.Core.Bool.{Bool, cond}
 use mathlib.Core.List.{List}
@@ -23,27 +23,11 @@ use Rattle.tree.proofs.Listing.{listed-same, listed-once}
 use Rattle.tree.proofs.RootToLeaf.{nodes-few, zeros-after, listing-listed, parent-before, some-node, first-root, only-root}
 use Rattle.tree.proofs.Words.{parent-at, listed-at}
 use Rattle.causes.proofs.Laws.{Bounded, some-pixel}
-use Rattle.calls.specs.Calls.{grey, record-of}
-
--- the parent word of p, and entry i of the list
-abbrev pub parent : Grid → ℕ → List ℕ → ℕ → ℕ
-parent grid a picture p = getD (record-of grid a picture) p 0
-
-abbrev pub entry : Grid → ℕ → List ℕ → ℕ → ℕ
-entry grid a picture i = getD (record-of grid a picture) (2 * pixels grid + i) 0
-
-pub record Root-to-leaf (grid : Grid) (a : ℕ) (picture : List ℕ) (nodes : ℕ) : Type 0 where
-  -- "the representatives by rising level, lower position first within a level"
-  pub listed : Listed (pixels grid) nodes (grey picture) (is-representative (pixels grid) (adjacent grid) (grey picture)) (entry grid a picture)
-  -- each once
-  pub once : (i j : ℕ) → i < j → j < nodes → entry grid a picture i ≡ entry grid a picture j → ⊥
-  -- "and zeros after the last"
-  pub zeros : (i : ℕ) → nodes ≤ i → i < pixels grid → entry grid a picture i ≡ 0
-  -- "The root always comes first": it is its own parent, at the least grey
-  pub root : parent grid a picture (entry grid a picture 0) ≡ entry grid a picture 0
-  pub darkest : grey picture (entry grid a picture 0) ≡ least-grey (pixels grid) (grey picture)
-  -- "and every parent before its children"
-  pub parents : (i : ℕ) → 0 < i → i < nodes → (j : ℕ) × (j < i) × (entry grid a picture j ≡ parent grid a picture (entry grid a picture i))
+use Rattle.calls.specs.Calls.{grey, record-of, Build-call, build-verdict, build-workspace, Open-call, open-verdict, open-workspace}
+use Rattle.calls.specs.Calls.{Map-call, map-verdict, map-workspace}
+use Rattle.calls.specs.RootToLeaf.{parent, entry, nodes, Root-to-leaf}
+use Rattle.calls.specs.declared.Verdict.the-variants.{Accepted}
+use Rattle.calls.proofs.Accepted.{build-passed, open-passed, map-passed, bounded}
 
 module _ (grid : Grid) (a : ℕ) (picture : List ℕ) (fits : Bounded (grid .width) (grid .height)) where
   abbrev n : ℕ
@@ -55,8 +39,8 @@ module _ (grid : Grid) (a : ℕ) (picture : List ℕ) (fits : Bounded (grid .wid
   abbrev g : ℕ → ℕ
   g = grey picture
 
-  abbrev nodes : ℕ
-  nodes = number-of-nodes n adj g
+  abbrev ws : List ℕ
+  ws = record-of grid a picture
 
   abbrev in-list : ℕ → ℕ
   in-list i = getD (listing n adj g) i 0
@@ -64,31 +48,31 @@ module _ (grid : Grid) (a : ℕ) (picture : List ℕ) (fits : Bounded (grid .wid
   some : 0 < n
   some = omega (arith, some-pixel fits)
 
-  entry-is : (i : ℕ) → i < n → entry grid a picture i ≡ in-list i
+  entry-is : (i : ℕ) → i < n → entry grid ws i ≡ in-list i
   entry-is i b = listed-at n adj (attribute grid a) g i b
 
-  node-entry : (i : ℕ) → i < nodes → entry grid a picture i ≡ in-list i
+  node-entry : (i : ℕ) → i < nodes grid picture → entry grid ws i ≡ in-list i
   node-entry i b = entry-is i (omega (arith, nodes-few n adj g))
 
   -- the parent word of a node is its parent's representative
-  parent-is : (i : ℕ) → i < nodes → parent grid a picture (entry grid a picture i) ≡ parent-representative n adj g (in-list i)
+  parent-is : (i : ℕ) → i < nodes grid picture → parent ws (entry grid ws i) ≡ parent-representative n adj g (in-list i)
   unfolding parent-word
   parent-is i b =
       let p : ℕ = in-list i in
       let listed = listing-listed n adj g in
-      ap (parent grid a picture) (node-entry i b)
+      ap (parent ws) (node-entry i b)
       ∙ parent-at n adj (attribute grid a) g p (listed .within i b)
       ∙ ap (λ (t : Bool). cond t (parent-representative n adj g p) (representative n adj g p)) (listed .inside i b)
 
-  pub root-to-leaf : Root-to-leaf grid a picture (number-of-nodes (pixels grid) (adjacent grid) (grey picture))
+  record-root-to-leaf : Root-to-leaf grid picture (record-of grid a picture)
   unfolding is-representative
-  root-to-leaf =
+  record-root-to-leaf =
       let symm = adjacent-symmetric grid in
       let whole = grid-whole grid (fits .wide) g in
       let list = listing-listed n adj g in
-      let one : 0 < nodes = some-node n adj g symm some in
-      let listed : Listed n nodes g (is-representative n adj g) (entry grid a picture) =
-      listed-same n nodes g (is-representative n adj g) (is-representative n adj g) in-list (entry grid a picture) (λ q b. refl) node-entry list in
+      let one : 0 < nodes grid picture = some-node n adj g symm some in
+      let listed : Listed n (nodes grid picture) g (is-representative n adj g) (entry grid ws) =
+      listed-same n (nodes grid picture) g (is-representative n adj g) (is-representative n adj g) in-list (entry grid ws) (λ q b. refl) node-entry list in
       let root = first-root n adj g symm some in
       record {
         listed = listed;
@@ -107,3 +91,22 @@ module _ (grid : Grid) (a : ℕ) (picture : List ℕ) (fits : Bounded (grid .wid
             (λ (j, c, e). (j, c, node-entry j (omega arith) ∙ e ∙ sym (parent-is i b)))
             (parent-before n adj g symm i b);
       }
+
+-- every accepted call leaves it
+pub build-root-to-leaf : (call : Build-call) → build-verdict call ≡ Accepted → Root-to-leaf (call .grid) (call .picture) (build-workspace call)
+unfolding build-workspace
+build-root-to-leaf call accepted =
+    let grid = call .grid in
+    rw accepted (record-root-to-leaf grid (call .attribute) (call .picture) (bounded (grid .width) (grid .height) (build-passed call accepted .sides)))
+
+pub open-root-to-leaf : (call : Open-call) → open-verdict call ≡ Accepted → Root-to-leaf (call .grid) (call .picture) (open-workspace call)
+unfolding open-workspace
+open-root-to-leaf call accepted =
+    let grid = call .grid in
+    rw accepted (record-root-to-leaf grid (call .attribute) (call .picture) (bounded (grid .width) (grid .height) (open-passed call accepted .common .sides)))
+
+pub map-root-to-leaf : (call : Map-call) → map-verdict call ≡ Accepted → Root-to-leaf (call .grid) (call .picture) (map-workspace call)
+unfolding map-workspace
+map-root-to-leaf call accepted =
+    let grid = call .grid in
+    rw accepted (record-root-to-leaf grid (call .attribute) (call .picture) (bounded (grid .width) (grid .height) (map-passed call accepted .common .sides)))

@@ -35,7 +35,7 @@ module _ (n : ℕ) (adj : Adjacency) (attr : Positions → ℕ) (g : ℕ → ℕ
   unfolding attributes
   length-attributes = length-table n (attribute-word n adj attr g)
 
-  -- the three parts before the scratch
+  -- the two parts before the list, and the three before the scratch
   length-two : length (parents n adj g ++ attributes n adj attr g) ≡ n + n
   length-two =
       length-append (parents n adj g) (attributes n adj attr g) ∙ omega (arith, length-parents, length-attributes)
