@@ -1,7 +1,8 @@
 // Build, open and map on random pictures, under both neighbourhoods: accepted calls against the
 // definitions, refused ones against the causes, each cause alone and in pairs.
 
-use crate::causes::{refusal, Named, MOST_STEPS, MOST_THRESHOLD, NEIGHBOURHOODS, ORDER};
+use crate::causes::{refusal, Named, NEIGHBOURHOODS, ORDER};
+use crate::causes::{MOST_STEPS, MOST_THRESHOLD, WORDS_A_PIXEL};
 use crate::damage;
 use crate::definition::{Component, Levels, Picture, Record, CUT};
 use crate::fast::Forest;
@@ -34,7 +35,7 @@ impl Call {
             picture: picture.greys.clone(),
             numbers,
             steps,
-            workspace: 6 * n,
+            workspace: WORDS_A_PIXEL * n,
             outputs: [n, n],
         }
     }
@@ -111,11 +112,7 @@ pub fn check_build(
     let answer = interface::build(picture.now(), call.numbers, workspace.now_mut());
     let outcome = refusal(&call.named(None, 0)).map(|()| truth.record(call.numbers.attribute));
     let words = outcome.as_ref().ok().map(Record::workspace);
-    let answer_due = due(
-        report,
-        "build",
-        outcome.map(|record| u64::from(record.nodes)),
-    );
+    let answer_due = due(report, "build", outcome.map(|record| record.nodes()));
     let fault = first_fault([
         answer_fault(answer, answer_due),
         picture.fault("picture", None),

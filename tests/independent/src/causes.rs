@@ -1,10 +1,13 @@
-// The scope, "Causes and their numbers", and the request that a call names 4 or 8 neighbours: what
-// is refused, in its order.
+// The scope, "Causes and their numbers", and the requests that a call names 4 or 8 neighbours and
+// that a workspace has room for the list of nodes: what is refused, in its order.
 
 pub const MOST_SIDE: u64 = 4096;
 pub const MOST_PIXELS: u64 = 1_048_576;
 pub const MOST_THRESHOLD: u32 = 1_048_577;
 pub const MOST_STEPS: usize = 256;
+
+/// Parents, attributes, the list of nodes, and four parts of scratch.
+pub const WORDS_A_PIXEL: usize = 7;
 
 /// How many neighbours a call may name.
 pub const NEIGHBOURHOODS: [u32; 2] = [4, 8];
@@ -51,7 +54,7 @@ fn applies(call: &Named, n: usize, cause: u32) -> bool {
         3 => !(1..=3).contains(&call.attribute),
         17 => !NEIGHBOURHOODS.contains(&call.neighbours),
         4 => call.steps.is_some_and(|steps| !is_step_list(steps)),
-        5 => call.workspace != 6 * n,
+        5 => call.workspace != WORDS_A_PIXEL * n,
         _ => call.outputs.iter().any(|entries| *entries != n),
     }
 }

@@ -1,7 +1,7 @@
 // Ways to make a cause apply to a call.
 
 use crate::calls::Call;
-use crate::causes::{pixels, MOST_STEPS, MOST_THRESHOLD, NEIGHBOURHOODS};
+use crate::causes::{pixels, MOST_STEPS, MOST_THRESHOLD, NEIGHBOURHOODS, WORDS_A_PIXEL};
 use crate::random::Random;
 
 /// Makes one of the causes apply to the call, whatever else does.
@@ -12,7 +12,7 @@ pub fn apply(random: &mut Random, call: &mut Call, cause: u32) {
         3 => call.numbers.attribute = wrong_attribute(random),
         17 => call.numbers.neighbours = wrong_neighbours(random),
         4 => steps(random, call),
-        5 => call.workspace = other_length(random, call.workspace, call.picture.len()),
+        5 => call.workspace = random.pick(&all_wrong_workspaces(call.picture.len())),
         _ => outputs(random, call),
     }
 }
@@ -46,6 +46,21 @@ pub fn all_wrong_neighbours() -> Vec<u32> {
 
 fn wrong_neighbours(random: &mut Random) -> u32 {
     random.pick(&all_wrong_neighbours())
+}
+
+/// Lengths that are not 7n words: parts of n words, none to twice as many as are due; those for one
+/// pixel more or fewer; a word more or fewer than 6, 7 and 8 parts, and than for one pixel more; a
+/// single word.
+pub fn all_wrong_workspaces(n: usize) -> Vec<usize> {
+    let due = WORDS_A_PIXEL * n;
+    let mut lengths: Vec<usize> = (0..=2 * WORDS_A_PIXEL).map(|parts| parts * n).collect();
+    lengths.extend([due.saturating_sub(WORDS_A_PIXEL), due + WORDS_A_PIXEL]);
+    for near in [due - n, due, due + n, due + WORDS_A_PIXEL] {
+        lengths.extend([near.saturating_sub(1), near + 1]);
+    }
+    lengths.push(1);
+    lengths.retain(|length| *length != due);
+    lengths
 }
 
 /// Sides whose product is too large, by 3 at the least, or wraps around to 0 or a small number.

@@ -1,9 +1,9 @@
 // The scope, "Picture, nodes, openings", "Steps and maps" and "Tree record", word for word: level
 // sets, components by flood fill, nodes, representatives, parents, openings, residues; and the
-// request on floc cut by the frame. Nothing here is meant to be fast. How many neighbours there
-// are, 4 or 8, is named wherever it matters.
+// requests on floc cut by the frame and on the list of nodes. Nothing here is meant to be fast. How
+// many neighbours there are, 4 or 8, is named wherever it matters.
 
-use crate::causes::NEIGHBOURHOODS;
+use crate::causes::{NEIGHBOURHOODS, WORDS_A_PIXEL};
 
 /// Each attribute of a set with a pixel in the first or last row or column. No threshold is above.
 pub const CUT: u32 = 1_048_577;
@@ -72,16 +72,21 @@ pub struct Levels {
 pub struct Record {
     pub parents: Vec<u32>,
     pub attributes: Vec<u32>,
-    pub nodes: u32,
+    /// The representatives by rising level, lower position first within a level.
+    pub list: Vec<u32>,
 }
 
 impl Record {
-    /// The 6n words: parents, attributes, scratch at zero.
+    /// How many there are, which building answers.
+    pub fn nodes(&self) -> u64 {
+        self.list.len() as u64
+    }
+
+    /// The 7n words: parents, attributes, the list and zeros after its last entry, scratch at zero.
     pub fn workspace(&self) -> Vec<u32> {
         let n = self.parents.len();
-        let mut words = self.parents.clone();
-        words.extend(&self.attributes);
-        words.resize(6 * n, 0);
+        let mut words = [&self.parents[..], &self.attributes, &self.list].concat();
+        words.resize(WORDS_A_PIXEL * n, 0);
         words
     }
 }
@@ -190,12 +195,19 @@ impl Levels {
             .min_by_key(|c| c.pixels.len())
     }
 
+    /// The representatives by rising level, lower position first within a level.
+    fn list(&self) -> Vec<u32> {
+        let mut list: Vec<(u8, usize)> = self.nodes().map(|c| (c.level, c.own[0])).collect();
+        list.sort_unstable();
+        list.into_iter().map(|(_, p)| p as u32).collect()
+    }
+
     pub fn record(&self, attribute: u32) -> Record {
         let n = self.holding.len();
         let mut record = Record {
             parents: vec![u32::MAX; n],
             attributes: vec![0; n],
-            nodes: self.nodes().count() as u32,
+            list: self.list(),
         };
         for node in self.nodes() {
             let representative = node.own[0];

@@ -38,7 +38,7 @@ const INSIDES: [(usize, usize, usize); 7] = [
 const GREYS: [u8; 4] = [7, 8, 100, 255];
 
 /// The picture whose greys are the digits of the number.
-fn picture((width, height, greys): (usize, usize, usize), number: usize) -> Picture {
+pub fn picture((width, height, greys): (usize, usize, usize), number: usize) -> Picture {
     let mut rest = number;
     let mut next = || {
         let digit = rest % greys;

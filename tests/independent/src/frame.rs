@@ -3,7 +3,7 @@
 // rectangles at every place, touching the frame or not, within each other; floc that meets the
 // frame's pixels only by a corner; floc that fills the largest pictures but for their frame. Of
 // these the library and a program here or both are held to what the places alone say; where all is
-// frame, parents and nodes are the second program's. Then random pictures, on which the library is
+// frame, parents and list are the second program's. Then random pictures, on which the library is
 // held to the laws as well.
 
 use crate::calls::{attribute_values, check_build, check_map, check_open, shown};
@@ -53,7 +53,7 @@ fn check_openings(report: &mut Report, random: &mut Random, call: &Call, by_hand
 /// Everything is frame: all nodes have 1,048,577, openings change nothing, all maps are zero.
 struct AllFrame<'a> {
     picture: &'a Picture,
-    /// Parents and the number of nodes, which the frame has no part in.
+    /// Parents and the list of nodes, which the frame has no part in.
     tree: Record,
 }
 
@@ -72,7 +72,7 @@ impl Truth for AllFrame<'_> {
         Record {
             parents: self.tree.parents.clone(),
             attributes: self.tree.parents.iter().enumerate().map(word).collect(),
-            nodes: self.tree.nodes,
+            list: self.tree.list.clone(),
         }
     }
     fn opening(&self, _: u32, _: u32) -> Vec<u8> {
@@ -131,11 +131,11 @@ fn one_or_two(report: &mut Report, random: &mut Random) {
 fn without_ring(table: &mut Table) {
     let p = rows(&[[10, 30, 20, 50, 10]]);
     let two_rows = rows(&[[9, 0], [0, 9]]);
-    table.tree_cut(&p, &[0, 2, 0, 2, 0], &[0, 1, 2, 3]);
+    table.tree_cut(&p, &[0, 2, 0, 2, 0], &[0, 2, 1, 3]);
     if table.neighbours == 4 {
-        table.tree_cut(&two_rows, &[1; 4], &[0, 1, 3]);
+        table.tree_cut(&two_rows, &[1; 4], &[1, 0, 3]);
     } else {
-        table.tree_cut(&two_rows, &[1, 1, 1, 0], &[0, 1]);
+        table.tree_cut(&two_rows, &[1, 1, 1, 0], &[1, 0]);
     }
     for attribute in [AREA, HEIGHT, WIDTH] {
         for picture in [&p, &two_rows] {
@@ -248,6 +248,7 @@ struct Corner {
     parents: [u32; 3],
     /// At 7.
     attributes: [u32; 3],
+    list: &'static [u32],
     /// Of the floc, at one above its size.
     fall: u8,
 }
@@ -273,8 +274,8 @@ impl Corner {
         attributes[7] = self.attributes[attribute as usize - 1];
         Record {
             parents,
-            nodes: attributes.iter().filter(|word| **word > 0).count() as u32,
             attributes,
+            list: self.list.to_vec(),
         }
     }
 
@@ -300,24 +301,25 @@ impl Corner {
 /// With 4 neighbours the floc lies by itself. With 8 it is joined to the pixel in the first row: to
 /// a darker one it falls, otherwise it stays.
 fn corners(table: &mut Table) {
-    let cases = if table.neighbours == 4 {
+    let cases: [(_, _, _, &[u32], _); 3] = if table.neighbours == 4 {
         [
-            ([9, 9], [0, 0, 7], VISIBLE, 9),
-            ([5, 9], [0, 0, 7], VISIBLE, 9),
-            ([9, 5], [0, 0, 7], VISIBLE, 5),
+            ([9, 9], [0, 0, 7], VISIBLE, &[0, 1, 7], 9),
+            ([5, 9], [0, 0, 7], VISIBLE, &[0, 1, 7], 9),
+            ([9, 5], [0, 0, 7], VISIBLE, &[0, 7, 1], 5),
         ]
     } else {
         [
-            ([9, 9], [0, 1, 1], [0; 3], 0),
-            ([5, 9], [0, 1, 7], VISIBLE, 4),
-            ([9, 5], [7, 0, 7], [CUT; 3], 0),
+            ([9, 9], [0, 1, 1], [0; 3], &[0, 1], 0),
+            ([5, 9], [0, 1, 7], VISIBLE, &[0, 1, 7], 4),
+            ([9, 5], [7, 0, 7], [CUT; 3], &[0, 7, 1], 0),
         ]
     };
-    for (greys, parents, attributes, fall) in cases {
+    for (greys, parents, attributes, list, fall) in cases {
         let corner = Corner {
             greys,
             parents,
             attributes,
+            list,
             fall,
         };
         corner.check(table);

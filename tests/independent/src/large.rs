@@ -32,7 +32,7 @@ const RINGED: [(&str, usize, usize); 5] = [
     ("noise", 4096, 3),
 ];
 
-fn picture(random: &mut Random, kind: &str, width: usize, height: usize) -> Picture {
+pub fn picture(random: &mut Random, kind: &str, width: usize, height: usize) -> Picture {
     let (_, maker) = KINDS
         .iter()
         .find(|(name, _)| *name == kind)

@@ -19,6 +19,7 @@ mod frame;
 mod interface;
 mod large;
 mod lent;
+mod listing;
 mod long;
 mod neighbours;
 mod nest;
@@ -41,10 +42,11 @@ const FEWEST_CASES: usize = 1000;
 
 type Suite = fn(&mut Report, &Options);
 
-const SUITES: [(&str, Suite); 10] = [
+const SUITES: [(&str, Suite); 11] = [
     ("table", |r, o| table::run(r, o.seed)),
     ("neighbours", |r, o| neighbours::run(r, o.seed)),
     ("frame", |r, o| frame::run(r, o.seed, o.cases / 10)),
+    ("listing", |r, o| listing::run(r, o.seed, o.cases / 10)),
     ("every", |r, o| every::run(r, o.seed)),
     ("calls", |r, o| calls::run(r, o.seed, o.cases)),
     ("chains", |r, o| chains::run(r, o.seed, o.cases / 4)),

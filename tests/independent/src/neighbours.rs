@@ -143,15 +143,16 @@ fn check_pairs(report: &mut Report, random: &mut Random, shape: (usize, usize), 
 fn diagonals(table: &mut Table) {
     let falling = rows(&[[5, 0, 0], [0, 7, 0], [0, 0, 6]]);
     let rising = rows(&[[0, 0, 5], [0, 7, 0], [6, 0, 0]]);
+    let lists = [[0, 6, 18, 12], [0, 8, 16, 12]];
     let (falls, place) = if table.neighbours == 4 {
-        table.tree_inside(&falling, &[0; 9], &[1, 0, 0, 0, 1, 0, 0, 0, 1], 4);
-        table.tree_inside(&rising, &[0; 9], &[0, 0, 1, 0, 1, 0, 1, 0, 0], 4);
+        table.tree_inside(&falling, &[0; 9], &[1, 0, 0, 0, 1, 0, 0, 0, 1], &lists[0]);
+        table.tree_inside(&rising, &[0; 9], &[0, 0, 1, 0, 1, 0, 1, 0, 0], &lists[1]);
         ([5, 7, 6], 1)
     } else {
         let parents = [0, 0, 0, 0, 18, 0, 0, 0, 6];
-        table.tree_inside(&falling, &parents, &[3, 0, 0, 0, 1, 0, 0, 0, 2], 4);
+        table.tree_inside(&falling, &parents, &[3, 0, 0, 0, 1, 0, 0, 0, 2], &lists[0]);
         let parents = [0, 0, 0, 0, 16, 0, 8, 0, 0];
-        table.tree_inside(&rising, &parents, &[0, 0, 3, 0, 1, 0, 2, 0, 0], 4);
+        table.tree_inside(&rising, &parents, &[0, 0, 3, 0, 1, 0, 2, 0, 0], &lists[1]);
         ([5, 5, 5], 3)
     };
     for (picture, at) in [(falling, [0, 4, 8]), (rising, [2, 4, 6])] {
@@ -194,23 +195,23 @@ fn corners(table: &mut Table) {
 /// they stand the frame cuts all nodes of these pictures, in a ring none but the root.
 fn same_with_both(table: &mut Table) {
     let columns = rows(&[[9, 0, 8], [9, 0, 8], [9, 0, 8]]);
-    table.tree_cut(&columns, &[1, 1, 1, 0, 1, 2, 0, 1, 2], &[0, 1, 2]);
+    table.tree_cut(&columns, &[1, 1, 1, 0, 1, 2, 0, 1, 2], &[1, 2, 0]);
     let parents = [0, 0, 0, 6, 0, 8, 6, 0, 8];
-    table.tree_inside(&columns, &parents, &[3, 0, 3, 0, 0, 0, 0, 0, 0], 3);
+    table.tree_inside(&columns, &parents, &[3, 0, 3, 0, 0, 0, 0, 0, 0], &[0, 8, 6]);
     let ends = rows(&[[0, 0, 9], [9, 0, 0], [9, 0, 0]]);
     table.tree_cut(&ends, &[0, 0, 0, 0, 0, 0, 3, 0, 0], &[0, 2, 3]);
     let parents = [0, 0, 0, 0, 0, 0, 11, 0, 0];
-    table.tree_inside(&ends, &parents, &[0, 0, 1, 2, 0, 0, 0, 0, 0], 3);
+    table.tree_inside(&ends, &parents, &[0, 0, 1, 2, 0, 0, 0, 0, 0], &[0, 8, 11]);
     let hook = rows(&[[9, 9, 9], [0, 0, 9], [9, 0, 9]]);
-    table.tree_cut(&hook, &[3, 0, 0, 3, 3, 0, 3, 3, 0], &[0, 3, 6]);
+    table.tree_cut(&hook, &[3, 0, 0, 3, 3, 0, 3, 3, 0], &[3, 0, 6]);
     let parents = [0, 6, 6, 0, 0, 6, 0, 0, 6];
-    table.tree_inside(&hook, &parents, &[5, 0, 0, 0, 0, 0, 1, 0, 0], 3);
+    table.tree_inside(&hook, &parents, &[5, 0, 0, 0, 0, 0, 1, 0, 0], &[0, 6, 16]);
     let column = rows(&[[9], [0], [9], [0], [7]]);
-    table.tree_cut(&column, &[1; 5], &[0, 1, 2, 4]);
-    table.tree_inside(&column, &[0; 5], &[1, 0, 1, 0, 1], 4);
+    table.tree_cut(&column, &[1; 5], &[1, 4, 0, 2]);
+    table.tree_inside(&column, &[0; 5], &[1, 0, 1, 0, 1], &[0, 16, 4, 10]);
     let row = rows(&[[9, 0, 9, 0, 7]]);
-    table.tree_cut(&row, &[1; 5], &[0, 1, 2, 4]);
-    table.tree_inside(&row, &[0; 5], &[1, 0, 1, 0, 1], 4);
+    table.tree_cut(&row, &[1; 5], &[1, 4, 0, 2]);
+    table.tree_inside(&row, &[0; 5], &[1, 0, 1, 0, 1], &[0, 12, 8, 10]);
 }
 
 /// Numbers that are neither 4 nor 8, each alone, which is beside 17, and beside each other cause.

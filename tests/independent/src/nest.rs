@@ -116,7 +116,7 @@ impl Truth for Nest {
         let mut record = Record {
             parents: self.depth.iter().map(|k| at(usize::from(*k))).collect(),
             attributes: vec![0; self.depth.len()],
-            nodes: representatives.len() as u32,
+            list: (0..representatives.len()).map(at).collect(),
         };
         for (k, p) in representatives.iter().enumerate() {
             record.parents[*p] = at(k.saturating_sub(1));

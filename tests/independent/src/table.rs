@@ -1,7 +1,8 @@
 // The scope, "Table of small pictures" and the readings that mislead: expected values as printed
 // there, for both programs here and for the library. The small pictures are set in a ring, one
 // pixel wide, of their least grey; their maps and openings inside it stay, and the tree case is
-// worked out again. With 8 neighbours named the two-row case has zero maps and the others stay.
+// worked out again, with its list of nodes. With 8 neighbours named the two-row case has zero maps
+// and the others stay.
 
 use crate::calls::{check_build, check_map, check_open, ByDefinition, Call};
 use crate::causes::MOST_THRESHOLD;
@@ -81,15 +82,15 @@ impl Table<'_> {
     }
 
     /// The tree of a picture in which the frame cuts every node, by each attribute.
-    pub fn tree_cut(&mut self, picture: &Picture, parents: &[u32], representatives: &[usize]) {
+    pub fn tree_cut(&mut self, picture: &Picture, parents: &[u32], list: &[u32]) {
         let mut attributes = vec![0; picture.pixels()];
-        for p in representatives {
-            attributes[*p] = CUT;
+        for p in list {
+            attributes[*p as usize] = CUT;
         }
         let due = Record {
             parents: parents.to_vec(),
             attributes,
-            nodes: representatives.len() as u32,
+            list: list.to_vec(),
         };
         for attribute in [AREA, HEIGHT, WIDTH] {
             self.tree(picture, attribute, &due);
@@ -97,14 +98,15 @@ impl Table<'_> {
     }
 
     /// The tree by area of a picture set in its ring, in which the root's representative is
-    /// position 0. Given are the words inside the ring; parents are positions in the whole.
-    pub fn tree_inside(&mut self, inside: &Picture, parents: &[u32], areas: &[u32], nodes: u32) {
+    /// position 0. Given are the words inside the ring, and the list; parents and what is listed
+    /// are positions in the whole.
+    pub fn tree_inside(&mut self, inside: &Picture, parents: &[u32], areas: &[u32], list: &[u32]) {
         let mut attributes = ring(inside.width, areas, 0);
         attributes[0] = CUT;
         let due = Record {
             parents: ring(inside.width, parents, 0),
             attributes,
-            nodes,
+            list: list.to_vec(),
         };
         self.tree(&in_ring(inside), AREA, &due);
     }
@@ -178,7 +180,7 @@ impl Table<'_> {
             &Record {
                 parents: [[0; 7], [0, 0, 10, 0, 10, 0, 0], [0; 7]].concat(),
                 attributes: [[CUT, 0, 0, 0, 0, 0, 0], [0, 0, 1, 3, 1, 0, 0], [0; 7]].concat(),
-                nodes: 4,
+                list: vec![0, 10, 9, 11],
             },
         );
         self.maps_inside(
