@@ -1,6 +1,6 @@
 -- The record of a picture has its nodes from the root to the leaves, and every accepted call leaves it. Of the record alone: assumes that the
 -- sides fit.
-use Prim.Native.Nat.{ℕ, _+_, _*_, _≤_, _<_}
+use Prim.Native.Nat.{ℕ, _<_}
 use mathlib.Core.Bool.{Bool, cond}
 use mathlib.Core.List.{List}
 use mathlib.Core.Logic.{⊎-elim}
@@ -9,14 +9,13 @@ use native.Mathlib.Omega.{arith}
 use lib.ListN.{getD}
 use borrow.Author.Tests.{eqb-true}
 use Rattle.connected.specs.Component.{Adjacency}
-use Rattle.opening.specs.Opening.{least-grey}
 use Rattle.grid.specs.Pixels.{pixels}
 use Rattle.grid.specs.Neighbours.{adjacent}
 use Rattle.grid.specs.Attributes.{attribute}
 use Rattle.grid.specs.declared.Grid.{Grid}
 use Rattle.grid.proofs.Attributes.{adjacent-symmetric}
 use Rattle.grid.proofs.Whole.{grid-whole}
-use Rattle.tree.specs.Tree.{representative, parent-representative, is-representative, parent-word, number-of-nodes, listing}
+use Rattle.tree.specs.Tree.{representative, parent-representative, is-representative, parent-word, listing}
 use Rattle.tree.specs.Listing.{Listed}
 use Rattle.tree.proofs.Parents.{root-representative, root-least}
 use Rattle.tree.proofs.Listing.{listed-same, listed-once}

@@ -1,5 +1,4 @@
--- What a building call answers and leaves: refused, all as it was; accepted, the record and
--- the number of nodes. Assumes nothing.
+-- What a building call answers and leaves: refused, all as it was; accepted, the record and the number of nodes. Assumes nothing.
 use Prim.Native.Nat.{ℕ}
 use mathlib.Core.List.{List, [], _∷_}
 use mathlib.Core.Path.{_≡_, refl, sym, ap, _∙_}
