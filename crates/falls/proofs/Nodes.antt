@@ -1,30 +1,33 @@
--- The residues of a node from those of its parent. A node falls at the first test that it fails, the root never; nodes on one climb that
--- fall at the same step merge into one residue, and on a tie the parent's stays, since it falls later.
+-- The residues of a node from those of its parent, and so its runs. A node falls at the first test that it fails, the root never; a node
+-- that falls at most the gap before its parent shares the parent's run, and on a tie the parent's stays, since it ends later.
 -- Assumes that neighbours are mutual, that the tests get narrower, and for the places that the whole picture is connected.
 use Prim.Native.Nat.{ℕ, suc, _+_, _-_, _≤_, _<_}
-use mathlib.Core.Bool.{cond}
+use mathlib.Core.Bool.{Bool, cond}
 use mathlib.Core.List.{List, [], _∷_}
+use mathlib.Core.Logic.{⊎-elim}
 use mathlib.Core.Path.{_≡_, refl, sym, ap, ap₂, _∙_}
 use native.Mathlib.Nat.{le-refl}
 use native.Mathlib.Omega.{arith}
 use lib.Dec.{eqb, ltb}
 use lib.ListN.{length, getD, set}
-use lib.Seq.{getD-set-same}
-use borrow.Author.Tests.{eq-eqb, ne-eqb, eqb-true, eqb-false}
+use lib.Seq.{getD-set-same, getD-set-other}
+use borrow.Author.Tests.{eq-eqb, ne-eqb, eqb-true}
 use Rattle.sets.specs.Sets.{Positions, member}
 use Rattle.connected.specs.Component.{Adjacency, Symmetric}
 use Rattle.opening.specs.Opening.{least-grey, Keeps, opened-by}
 use Rattle.opening.specs.Node.{node}
-use Rattle.opening.specs.Residue.{falls-from, Narrowing, openings-by, largest, largest-place, residue-by, index-by}
+use Rattle.opening.specs.Residue.{falls-from, joined, largest, largest-place, Narrowing, openings-by, residues, residue-by, index-by}
+use Rattle.opening.proofs.Joined.{length-joined, joined-null}
 use Rattle.opening.proofs.Levels.{cond-case, least-grey-le}
 use Rattle.opening.proofs.Residue.{residues-fall}
 use Rattle.tree.proofs.Together.{Together, together-below}
-use Rattle.tree.proofs.Parents.{Over, Parent, Root, root-least, least-root, parent-contains}
+use Rattle.tree.proofs.Parents.{Over, Parent, Root, root-least, least-root, parent-contains, parent-found}
 use Rattle.tree.proofs.Climb.{opened-own, opened-parent, opened-node, opened-root}
-use Rattle.falls.specs.Falls.{outlasted, fall-place, residues, running-fall}
+use Rattle.falls.specs.Falls.{outlasted, fall-place, joins, run-end, run-sum}
 use Rattle.falls.proofs.Largest.{largest-none, largest-raised, place-raised}
+use Rattle.falls.proofs.Joined.{first-is, runs-raised, lands-inside, lands-first, lands-more}
 use Rattle.falls.proofs.Outlasted.{outlasted-le, outlasted-mono, outlasted-passes, narrowing-up}
-use Rattle.falls.proofs.Raised.{falls-kept, falls-le, length-falls, falls-raised}
+use Rattle.falls.proofs.Raised.{falls-kept, length-falls, falls-raised}
 
 module _ (n : ℕ) (adj : Adjacency) (symm : Symmetric adj) (g : ℕ → ℕ) where
   -- the own pixels of a node have the same greys under every opening
@@ -39,14 +42,14 @@ module _ (n : ℕ) (adj : Adjacency) (symm : Symmetric adj) (g : ℕ → ℕ) wh
     unfolding residues
     residues-own p q b o e = ap₂ falls-from (sym e) (openings-own wide tests narrow p q b o e)
 
-    -- the own pixels of a node have one largest residue, at one place
-    pub residue-own : (p q : ℕ) → p < n → Over n adj g q p → g q ≡ g p → residue-by n adj tests g p ≡ residue-by n adj tests g q
-    unfolding residue-by residues
-    residue-own p q b o e = ap largest (residues-own p q b o e)
+    -- the own pixels of a node have one largest total, at one place
+    pub residue-own : (gap p q : ℕ) → p < n → Over n adj g q p → g q ≡ g p → residue-by n adj tests gap g p ≡ residue-by n adj tests gap g q
+    unfolding residue-by
+    residue-own gap p q b o e = ap (λ (rs : List ℕ). largest (joined gap 0 rs)) (residues-own p q b o e)
 
-    pub index-own : (p q : ℕ) → p < n → Over n adj g q p → g q ≡ g p → index-by n adj tests g p ≡ index-by n adj tests g q
-    unfolding index-by residues
-    index-own p q b o e = ap largest-place (residues-own p q b o e)
+    pub index-own : (gap p q : ℕ) → p < n → Over n adj g q p → g q ≡ g p → index-by n adj tests gap g p ≡ index-by n adj tests gap g q
+    unfolding index-by
+    index-own gap p q b o e = ap (λ (rs : List ℕ). largest-place (joined gap 0 rs)) (residues-own p q b o e)
 
     module _ (whole : (p q : ℕ) → p < n → q < n → Together n adj g (least-grey n g) p q) where
       pub place-le : (p : ℕ) → fall-place n adj tests g p ≤ length tests
@@ -90,10 +93,14 @@ module _ (n : ℕ) (adj : Adjacency) (symm : Symmetric adj) (g : ℕ → ℕ) wh
       length-residues p = length-falls (λ (k : Keeps). opened-by n adj k g p) (g p) tests
 
       -- a node that never falls has no residue
-      pub never-falls : (p : ℕ) → p < n → fall-place n adj tests g p ≡ length tests
-          → (residue-by n adj tests g p ≡ 0) × (index-by n adj tests g p ≡ 0)
-      unfolding residue-by index-by residues
-      never-falls p b e = largest-none (residues n adj tests g p) (λ i l. residues-before p b i (omega (arith, length-residues p)))
+      pub never-falls : (gap p : ℕ) → p < n → fall-place n adj tests g p ≡ length tests
+          → (residue-by n adj tests gap g p ≡ 0) × (index-by n adj tests gap g p ≡ 0)
+      unfolding residue-by index-by
+      never-falls gap p b e =
+          let rs : List ℕ = residues n adj tests g p in
+          largest-none
+          (joined gap 0 rs)
+          (λ i l. joined-null gap 0 rs i (residues-before p b i (omega (arith, length-residues p, length-joined gap 0 rs))))
 
       -- a node falls no later than its parent
       place-mono : (p q : ℕ) → Parent n adj g p q → fall-place n adj tests g p ≤ fall-place n adj tests g q
@@ -129,71 +136,107 @@ module _ (n : ℕ) (adj : Adjacency) (symm : Symmetric adj) (g : ℕ → ℕ) wh
           narrow
           (residues-fall n adj g q c wide tests narrow))
 
-      -- a fall is at most the grey
-      pub running-le : (p : ℕ) → p < n → running-fall n adj tests g p ≤ g p
-      unfolding running-fall residues
-      running-le p b =
-          falls-le
-          (g p)
-          (openings-by n adj tests g p)
-          (residues-fall n adj g p b wide tests narrow)
-          (fall-place n adj tests g p)
+      -- a node that falls has a residue at its step
+      falls-some : (p q : ℕ) → p < n → Parent n adj g p q → fall-place n adj tests g p < length tests
+          → 0 < getD (residues n adj tests g p) (fall-place n adj tests g p) 0
+      falls-some p q b w falls =
+          let k : ℕ = fall-place n adj tests g p in
+          let is : getD (residues n adj tests g p) k 0 ≡ g p - g q + getD (residues n adj tests g q) k 0 =
+          ap (λ (rs : List ℕ). getD rs k 0) (residues-raised p q b w)
+          ∙ getD-set-same (residues n adj tests g q) k _ 0 (omega (arith, length-residues q)) in
+          omega (arith, w .darker)
 
-      -- a node that falls
-      module _ (p q : ℕ) (b : p < n) (w : Parent n adj g p q) (falls : fall-place n adj tests g p < length tests) where
+      pub place-some : (q : ℕ) → q < n → fall-place n adj tests g q < length tests
+          → 0 < getD (residues n adj tests g q) (fall-place n adj tests g q) 0
+      place-some q c falls =
+          ⊎-elim
+          (λ found. falls-some q _ c (found .0) falls)
+          (λ root. absurd (omega (arith, place-root q c (root .0))))
+          (parent-found n adj symm g q)
+
+      -- a node that falls, at most or more than the gap before its parent
+      module _ (gap p q : ℕ) (b : p < n) (w : Parent n adj g p q) (falls : fall-place n adj tests g p < length tests) where
+        abbrev k : ℕ
+        k = fall-place n adj tests g p
+
+        abbrev m : ℕ
+        m = fall-place n adj tests g q
+
+        abbrev rs : List ℕ
+        rs = residues n adj tests g q
+
+        abbrev share : Bool
+        share = joins (length tests) gap k m
+
+        abbrev lands : ℕ
+        lands = cond share (run-end n adj tests gap g q) k
+
+        abbrev total-p : ℕ
+        total-p = g p - g q + cond share (run-sum n adj tests gap g q) 0
+
         parent-inside : q < n
         parent-inside = together-below n adj symm g (g q) p q (w .over)
 
-        -- before it falls its parent has no residue
-        parent-before : (i : ℕ) → i < fall-place n adj tests g p → getD (residues n adj tests g q) i 0 ≡ 0
-        parent-before i l = residues-before q parent-inside i (omega (arith, place-mono p q w))
+        inside : k < length rs
+        inside = omega (arith, length-residues q)
 
-        fall-raised : running-fall n adj tests g p ≡ g p - g q + getD (residues n adj tests g q) (fall-place n adj tests g p) 0
-        unfolding running-fall
-        fall-raised =
-            ap (λ (rs : List ℕ). getD rs (fall-place n adj tests g p) 0) (residues-raised p q b w)
-            ∙ getD-set-same (residues n adj tests g q) (fall-place n adj tests g p) _ 0 (omega (arith, length-residues q))
+        some : m < length rs → 0 < getD rs m 0
+        some l = place-some q parent-inside (omega (arith, length-residues q))
 
-        -- it adds the fall from its parent to the parent's running fall, if both fall at the same step
-        pub running-parent : running-fall n adj tests g p ≡ g p - g q + cond (eqb (fall-place n adj tests g q) (fall-place n adj tests g p)) (running-fall n adj tests g q) 0
-        unfolding running-fall
-        running-parent =
-            let k : ℕ = fall-place n adj tests g p in
-            let m : ℕ = fall-place n adj tests g q in
-            let rs : List ℕ = residues n adj tests g q in
-            fall-raised
-            ∙ cond-case
-            (λ (r : ℕ). g p - g q + getD rs k 0 ≡ g p - g q + r)
-            (eqb m k)
-            (λ e. ap (λ (i : ℕ). g p - g q + getD rs i 0) (sym (eqb-true m k e)))
-            (λ e. ap (λ (r : ℕ). g p - g q + r) (residues-before q parent-inside k (omega (arith, place-mono p q w, eqb-false m k e))))
+        more : 0 < g p - g q
+        more = omega (arith, w .darker)
 
-        residues-set : residues n adj tests g p ≡ set (residues n adj tests g q) (fall-place n adj tests g p) (running-fall n adj tests g p)
-        residues-set =
-            residues-raised p q b w
-            ∙ ap (λ (r : ℕ). set (residues n adj tests g q) (fall-place n adj tests g p) r) (sym fall-raised)
+        zeros : (i : ℕ) → i < m → getD rs i 0 ≡ 0
+        zeros i l = residues-before q parent-inside i l
 
-        -- if that is more than the parent's largest residue it is the largest, else the parent's stays
-        pub residue-parent : residue-by n adj tests g p ≡ cond (ltb (residue-by n adj tests g q) (running-fall n adj tests g p)) (running-fall n adj tests g p) (residue-by n adj tests g q)
-        unfolding residue-by residues
+        runs-set : joined gap 0 (residues n adj tests g p) ≡ set (joined gap 0 rs) lands total-p
+        unfolding run-end run-sum
+        runs-set =
+            ap (joined gap 0) (residues-raised p q b w)
+            ∙ rw (← length-residues q) (runs-raised gap (g p - g q) rs k m inside (place-mono p q w) zeros some more)
+
+        set-inside : lands < length (joined gap 0 rs)
+        unfolding run-end
+        set-inside = rw (← length-residues q) (lands-inside gap (g p - g q) rs k m inside (place-mono p q w) zeros some more)
+
+        set-first : (i : ℕ) → i < lands → getD (joined gap 0 rs) i 0 ≡ 0
+        unfolding run-end
+        set-first = rw (← length-residues q) (lands-first gap (g p - g q) rs k m inside (place-mono p q w) zeros some more)
+
+        set-more : getD (joined gap 0 rs) lands 0 < total-p
+        unfolding run-end run-sum
+        set-more = rw (← length-residues q) (lands-more gap (g p - g q) rs k m inside (place-mono p q w) zeros some more)
+
+        set-here : getD (joined gap 0 (residues n adj tests g p)) lands 0 ≡ total-p
+        set-here =
+            ap (λ (l : List ℕ). getD l lands 0) runs-set ∙ getD-set-same (joined gap 0 rs) lands total-p 0 set-inside
+
+        -- its run ends where the parent's does, if they share it, else with its own fall
+        pub run-end-parent : run-end n adj tests gap g p ≡ cond share (run-end n adj tests gap g q) k
+        unfolding run-end
+        run-end-parent =
+            first-is
+            (joined gap 0 (residues n adj tests g p))
+            lands
+            (omega (arith, set-here, set-more))
+            (λ i l.
+            ap (λ (l : List ℕ). getD l i 0) runs-set
+            ∙ getD-set-other (joined gap 0 rs) lands i total-p 0 (λ e. omega arith)
+            ∙ set-first i l)
+
+        -- it adds the fall from its parent to the parent's total, if they share it
+        pub run-sum-parent : run-sum n adj tests gap g p ≡ g p - g q + cond share (run-sum n adj tests gap g q) 0
+        unfolding run-sum
+        run-sum-parent = rw run-end-parent set-here
+
+        -- if that is more than the parent's largest total it is the largest, else the parent's stays
+        pub residue-parent : residue-by n adj tests gap g p ≡ cond (ltb (residue-by n adj tests gap g q) (run-sum n adj tests gap g p)) (run-sum n adj tests gap g p) (residue-by n adj tests gap g q)
+        unfolding residue-by
         residue-parent =
-            ap largest residues-set
-            ∙ largest-raised
-            (residues n adj tests g q)
-            (fall-place n adj tests g p)
-            (running-fall n adj tests g p)
-            (omega (arith, length-residues q))
-            parent-before
-            (omega (arith, fall-raised, w .darker))
+            rw run-sum-parent (ap largest runs-set ∙ largest-raised (joined gap 0 rs) lands total-p set-inside set-first set-more)
 
-        pub index-parent : index-by n adj tests g p ≡ cond (ltb (residue-by n adj tests g q) (running-fall n adj tests g p)) (suc (fall-place n adj tests g p)) (index-by n adj tests g q)
-        unfolding residue-by index-by residues
+        pub index-parent : index-by n adj tests gap g p ≡ cond (ltb (residue-by n adj tests gap g q) (run-sum n adj tests gap g p)) (suc (run-end n adj tests gap g p)) (index-by n adj tests gap g q)
+        unfolding residue-by index-by
         index-parent =
-            ap largest-place residues-set
-            ∙ place-raised
-            (residues n adj tests g q)
-            (fall-place n adj tests g p)
-            (running-fall n adj tests g p)
-            (omega (arith, length-residues q))
-            parent-before
-            (omega (arith, fall-raised, w .darker))
+            rw (run-sum-parent, run-end-parent)
+            (ap largest-place runs-set ∙ place-raised (joined gap 0 rs) lands total-p set-inside set-first set-more)

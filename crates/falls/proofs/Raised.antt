@@ -24,12 +24,6 @@ falls-kept x u (keeps ∷ rest) d k kept (suc i) b =
     (kept 0 (omega arith))
     (falls-kept x u rest d (k - 1) (λ j l. kept (suc j) (omega arith)) i (omega arith))
 
-pub falls-le : (u : ℕ) (l : List ℕ) → Falling u l → (i : ℕ) → getD (falls-from u l) i 0 ≤ u
-unfolding falls-from
-falls-le u [] f i = omega arith
-falls-le u (next ∷ rest) f zero = omega arith
-falls-le u (next ∷ rest) f (suc i) = omega (arith, f .0, falls-le next rest (f .1) i)
-
 pub length-falls : (x : Keeps → ℕ) (u : ℕ) (tests : List Keeps) → length (falls-from u (map x tests)) ≡ length tests
 unfolding falls-from
 length-falls x u [] = refl

@@ -7,3 +7,6 @@ pub mod Absorb
 pub mod Threshold
 pub mod Agree
 pub mod Residue
+pub mod Joined
+pub mod Runs
+pub mod RunLaws

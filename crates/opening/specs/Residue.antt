@@ -1,7 +1,7 @@
--- Residues along a list of openings, each by a test on sets of pixels, and the two maps that they give at a pixel. A list of thresholds
--- gives its tests by an attribute.
-use Prim.Native.Nat.{ℕ, suc, _+_, _-_}
-use mathlib.Core.Bool.{Bool, true, cond, _&&_}
+-- Residues along a list of openings, each by a test on sets of pixels, the runs that they are joined into, and the two maps that these give
+-- at a pixel. A list of thresholds gives its tests by an attribute.
+use Prim.Native.Nat.{ℕ, zero, suc, _+_, _-_}
+use mathlib.Core.Bool.{Bool, true, false, cond, _&&_}
 use mathlib.Core.List.{List, [], _∷_, map}
 use mathlib.Core.Path.{_≡_}
 use lib.Dec.{leb, ltb, eqb}
@@ -23,6 +23,22 @@ total (r ∷ rest) = r + total rest
 unfoldable pub last-of : ℕ → List ℕ → ℕ
 last-of grey [] = grey
 last-of grey (next ∷ rest) = last-of next rest
+
+-- whether one of the first residues, as many as the gap, is not null
+unfoldable pub soon : ℕ → List ℕ → Bool
+soon zero rs = false
+soon (suc gap) [] = false
+soon (suc gap) (r ∷ rest) = cond (eqb r 0) (soon gap rest) true
+
+-- "two non-null residues at i and a later j, with only null ones between, belong to one run if j less i is at most the gap": by place the
+-- total of the run that ends there, 0 where none does. What is carried is the total so far of a run that goes on.
+unfoldable pub joined : ℕ → ℕ → List ℕ → List ℕ
+joined gap carried [] = []
+joined gap carried (r ∷ rest) =
+    cond
+    (eqb r 0)
+    (0 ∷ joined gap carried rest)
+    (cond (soon gap rest) (0 ∷ joined gap (carried + r) rest) ((carried + r) ∷ joined gap 0 rest))
 
 -- "the largest residue"
 unfoldable pub largest : List ℕ → ℕ
@@ -57,10 +73,15 @@ Narrowing n wide (keeps ∷ rest) =
 abbrev pub openings-by : ℕ → Adjacency → List Keeps → (ℕ → ℕ) → ℕ → List ℕ
 openings-by n adj tests g p = map (λ (k : Keeps). opened-by n adj k g p) tests
 
--- "The residue map holds the largest residue"
-unfoldable pub residue-by : ℕ → Adjacency → List Keeps → (ℕ → ℕ) → ℕ → ℕ
-residue-by n adj tests g p = largest (falls-from (g p) (openings-by n adj tests g p))
+-- its residues, "residue i is opening i less opening i + 1"
+unfoldable pub residues : ℕ → Adjacency → List Keeps → (ℕ → ℕ) → ℕ → List ℕ
+residues n adj tests g p = falls-from (g p) (openings-by n adj tests g p)
 
--- "The index map holds the largest i + 1 attaining it (16 bits), or 0 where it is 0."
-unfoldable pub index-by : ℕ → Adjacency → List Keeps → (ℕ → ℕ) → ℕ → ℕ
-index-by n adj tests g p = largest-place (falls-from (g p) (openings-by n adj tests g p))
+-- "The map holds the largest run total"; at gap 0 "the largest residue"
+unfoldable pub residue-by : ℕ → Adjacency → List Keeps → ℕ → (ℕ → ℕ) → ℕ → ℕ
+residue-by n adj tests gap g p = largest (joined gap 0 (residues n adj tests g p))
+
+-- "the index is the largest i + 1 of a non-null residue in a run attaining it, the largest among such runs, or 0"; at gap 0 "the largest
+-- i + 1 attaining it (16 bits), or 0 where it is 0"
+unfoldable pub index-by : ℕ → Adjacency → List Keeps → ℕ → (ℕ → ℕ) → ℕ → ℕ
+index-by n adj tests gap g p = largest-place (joined gap 0 (residues n adj tests g p))
