@@ -11,11 +11,11 @@ use Rattle.sets.proofs.Tests.{and-left, and-right}
 use Rattle.opening.specs.Residue.{rising}
 use Rattle.grid.specs.Pixels.{pixels}
 use Rattle.grid.specs.declared.Grid.{Grid}
-use Rattle.causes.specs.Bounds.{top-threshold, most-steps, words-a-pixel}
+use Rattle.causes.specs.Bounds.{top-threshold, most-steps, most-gap, words-a-pixel}
 use Rattle.causes.specs.Sides.{sides-fit}
 pub use Rattle.causes.proofs.Laws.{Bounded, bounded}
 use Rattle.causes.specs.declared.Cause.{Cause}
-use Rattle.calls.specs.Judging.{threshold-good, all-good, steps-good, Test, also, verdict-after, verdict-of, accepted}
+use Rattle.calls.specs.Judging.{threshold-good, all-good, steps-good, gap-good, Test, also, verdict-after, verdict-of, accepted}
 use Rattle.calls.specs.Calls.{Build-call, build-tests, build-verdict, Open-call, open-tests, open-verdict, Map-call, map-tests, map-verdict}
 use Rattle.calls.specs.declared.Verdict.{Verdict}
 use Rattle.calls.specs.declared.Verdict.the-variants.{Accepted, Refused}
@@ -102,19 +102,21 @@ open-passed call ok =
 pub record Map-passed (call : Map-call) : Type 0 where
   pub common : Passed (call .grid) (length (call .picture)) (length (call .workspace))
   pub steps : steps-good (call .steps) ≡ true
+  pub gap : call .gap ≤ most-gap
   pub residue : length (call .residue) ≡ pixels (call .grid)
   pub index : length (call .index) ≡ pixels (call .grid)
 
 pub map-passed : (call : Map-call) → map-verdict call ≡ Accepted → Map-passed call
-unfolding All-hold
+unfolding All-hold gap-good
 map-passed call ok =
     let h = all-hold (map-tests call) ok in
     let named = h .1 .1 .1 .1 in
     record {
-      common = record { sides = h .0; a-byte-each = eqb-true _ _ (h .1 .0); words-each = eqb-true _ _ (named .1 .0) };
+      common = record { sides = h .0; a-byte-each = eqb-true _ _ (h .1 .0); words-each = eqb-true _ _ (named .1 .1 .0) };
       steps = named .0;
-      residue = eqb-true _ _ (named .1 .1 .0);
-      index = eqb-true _ _ (named .1 .1 .1 .0);
+      gap = leb-true (call .gap) most-gap (named .1 .0);
+      residue = eqb-true _ _ (named .1 .1 .1 .0);
+      index = eqb-true _ _ (named .1 .1 .1 .1 .0);
     }
 
 -- the test and the verdict

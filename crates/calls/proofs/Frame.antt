@@ -22,8 +22,10 @@ use Rattle.grid.proofs.Whole.{grid-whole}
 use Rattle.causes.specs.Bounds.{most-pixels, top-threshold}
 use Rattle.opening.specs.Opening.{level-set, component-at, least-grey, at-least}
 use Rattle.opening.specs.Node.{node}
-use Rattle.opening.specs.Residue.{falls-from, largest, largest-place, threshold-tests, openings-by, residue-by, index-by}
+use Rattle.opening.specs.Residue.{falls-from, total, joined, threshold-tests, openings-by, residues, residue-by, index-by}
 use Rattle.opening.proofs.Opened.{opened-le}
+use Rattle.opening.proofs.Joined.{joined-none}
+use Rattle.opening.proofs.Residue.{largest-place-zero}
 use Rattle.calls.specs.Judging.{threshold-good, all-good, steps-good}
 use Rattle.calls.specs.Calls.{grey, opening, residue-map, index-map}
 use Rattle.calls.proofs.Openings.{node-goes}
@@ -74,33 +76,33 @@ module _ (grid : Grid) (a : ℕ) (g : ℕ → ℕ) (p : ℕ) (same : (t : ℕ) �
   abbrev falls : List ℕ → List ℕ
   falls steps = falls-from (g p) (openings-by (pixels grid) (adjacent grid) (threshold-tests (attribute grid a) steps) g p)
 
-  no-falls : (steps : List ℕ) → all-good steps ≡ true → largest (falls steps) ≡ 0
-  unfolding all-good falls-from largest
+  no-falls : (steps : List ℕ) → all-good steps ≡ true → total (falls steps) ≡ 0
+  unfolding all-good falls-from total
   no-falls [] good = refl
   no-falls (t ∷ rest) good =
       let here : opening grid a t g p ≡ g p = same t (threshold-top t (and-left (threshold-good t) (all-good rest) good)) in
-      let later : largest (falls rest) ≡ 0 = no-falls rest (and-right (threshold-good t) (all-good rest) good) in
+      let later : total (falls rest) ≡ 0 = no-falls rest (and-right (threshold-good t) (all-good rest) good) in
       let none : g p - g p ≡ 0 = omega arith in
       rw (here, later, none) refl
 
-  no-residue : (steps : List ℕ) → all-good steps ≡ true
-      → residue-by (pixels grid) (adjacent grid) (threshold-tests (attribute grid a) steps) g p ≡ 0
-  unfolding residue-by
-  no-residue steps good = no-falls steps good
+  no-residue : (steps : List ℕ) → all-good steps ≡ true → (gap : ℕ)
+      → residue-by (pixels grid) (adjacent grid) (threshold-tests (attribute grid a) steps) gap g p ≡ 0
+  unfolding residue-by residues
+  no-residue steps good gap = joined-none gap (falls steps) (no-falls steps good)
 
-  no-index : (steps : List ℕ) → all-good steps ≡ true
-      → index-by (pixels grid) (adjacent grid) (threshold-tests (attribute grid a) steps) g p ≡ 0
-  unfolding index-by largest-place
-  no-index steps good = rw (no-falls steps good) refl
+  no-index : (steps : List ℕ) → all-good steps ≡ true → (gap : ℕ)
+      → index-by (pixels grid) (adjacent grid) (threshold-tests (attribute grid a) steps) gap g p ≡ 0
+  unfolding index-by residues
+  no-index steps good gap = largest-place-zero (joined gap 0 (falls steps)) (joined-none gap (falls steps) (no-falls steps good))
 
 -- so both maps are 0 at each own pixel p of a node with a pixel q on the frame
-pub framed-maps : (grid : Grid) (a : ℕ) (picture steps : List ℕ) → pixels grid ≤ most-pixels → steps-good steps ≡ true → (p q : ℕ) → p < pixels grid
+pub framed-maps : (grid : Grid) (a : ℕ) (picture steps : List ℕ) (gap : ℕ) → pixels grid ≤ most-pixels → steps-good steps ≡ true → (p q : ℕ) → p < pixels grid
     → q < pixels grid → member (node (pixels grid) (adjacent grid) (grey picture) p) q ≡ true → on-frame grid q ≡ true
-    → (getD (residue-map grid a steps picture) p 0 ≡ 0) × (getD (index-map grid a steps picture) p 0 ≡ 0)
+    → (getD (residue-map grid a steps gap picture) p 0 ≡ 0) × (getD (index-map grid a steps gap picture) p 0 ≡ 0)
 unfolding residue-map index-map
-framed-maps grid a picture steps few good p q below below-q in-node frame =
+framed-maps grid a picture steps gap few good p q below below-q in-node frame =
     let same = framed-stays grid a (grey picture) few p q below below-q in-node frame in
     let each = step-list steps good .each-good in (
-      table-at (pixels grid) _ p 0 below ∙ no-residue grid a (grey picture) p same steps each,
-      table-at (pixels grid) _ p 0 below ∙ no-index grid a (grey picture) p same steps each,
+      table-at (pixels grid) _ p 0 below ∙ no-residue grid a (grey picture) p same steps each gap,
+      table-at (pixels grid) _ p 0 below ∙ no-index grid a (grey picture) p same steps each gap,
     )

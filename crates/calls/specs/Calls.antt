@@ -15,8 +15,8 @@ use Rattle.opening.specs.Opening.{opened}
 use Rattle.opening.specs.Residue.{threshold-tests, residue-by, index-by}
 use Rattle.tree.specs.Tree.{workspace, number-of-nodes}
 use Rattle.causes.specs.Causes.{number-of}
-use Rattle.causes.specs.declared.Cause.the-variants.{Steps}
-use Rattle.calls.specs.Judging.{threshold-good, steps-good, Test, verdict-of, picture-tests, workspace-test, output-test}
+use Rattle.causes.specs.declared.Cause.the-variants.{Steps, Gap}
+use Rattle.calls.specs.Judging.{threshold-good, steps-good, gap-good, Test, verdict-of, picture-tests, workspace-test, output-test}
 use Rattle.calls.specs.declared.Verdict.{Verdict}
 use Rattle.calls.specs.declared.Verdict.the-variants.{Accepted, Refused}
 use Rattle.calls.specs.declared.Built.{Built}
@@ -30,15 +30,16 @@ opening grid a t g p = opened (pixels grid) (adjacent grid) (attribute grid a) t
 unfoldable pub opened-picture : Grid → ℕ → ℕ → List ℕ → List ℕ
 opened-picture grid a t picture = table (pixels grid) (λ (p : ℕ). opening grid a t (grey picture) p)
 
--- "The residue map holds the largest residue (a byte)."
-unfoldable pub residue-map : Grid → ℕ → List ℕ → List ℕ → List ℕ
-residue-map grid a steps picture =
-    table (pixels grid) (λ (p : ℕ). residue-by (pixels grid) (adjacent grid) (threshold-tests (attribute grid a) steps) (grey picture) p)
+-- "The map holds the largest run total"; at gap 0 "The residue map holds the largest residue (a byte)."
+unfoldable pub residue-map : Grid → ℕ → List ℕ → ℕ → List ℕ → List ℕ
+residue-map grid a steps gap picture =
+    table (pixels grid) (λ (p : ℕ). residue-by (pixels grid) (adjacent grid) (threshold-tests (attribute grid a) steps) gap (grey picture) p)
 
--- "The index map holds the largest i + 1 attaining it (16 bits), or 0 where it is 0."
-unfoldable pub index-map : Grid → ℕ → List ℕ → List ℕ → List ℕ
-index-map grid a steps picture =
-    table (pixels grid) (λ (p : ℕ). index-by (pixels grid) (adjacent grid) (threshold-tests (attribute grid a) steps) (grey picture) p)
+-- "the index is the largest i + 1 of a non-null residue in a run attaining it, the largest among such runs, or 0"; at gap 0 "The index map
+-- holds the largest i + 1 attaining it (16 bits), or 0 where it is 0."
+unfoldable pub index-map : Grid → ℕ → List ℕ → ℕ → List ℕ → List ℕ
+index-map grid a steps gap picture =
+    table (pixels grid) (λ (p : ℕ). index-by (pixels grid) (adjacent grid) (threshold-tests (attribute grid a) steps) gap (grey picture) p)
 
 -- the tree record of a picture, which every accepted call leaves in the workspace
 abbrev pub record-of : Grid → ℕ → List ℕ → List ℕ
@@ -142,29 +143,32 @@ pub record Map-call : Type 0 where
   pub grid : Grid
   pub attribute : ℕ
   pub steps : List ℕ
+  pub gap : ℕ
   pub workspace : List ℕ
   pub residue : List ℕ
   pub index : List ℕ
 
-abbrev pub mapping-of : List ℕ → Grid → ℕ → List ℕ → List ℕ → List ℕ → List ℕ → Map-call
-mapping-of picture grid a steps workspace residue index =
+abbrev pub mapping-of : List ℕ → Grid → ℕ → List ℕ → ℕ → List ℕ → List ℕ → List ℕ → Map-call
+mapping-of picture grid a steps gap workspace residue index =
     record {
       picture = picture;
       grid = grid;
       attribute = a;
       steps = steps;
+      gap = gap;
       workspace = workspace;
       residue = residue;
       index = index;
     }
 
-abbrev pub map-call : {E F G H I : Type 0} → Lent E → Grid → ℕ → Lent F → Lent G → Lent H → Lent I → Map-call
-map-call picture grid attribute steps workspace residue index =
+abbrev pub map-call : {E F G H I : Type 0} → Lent E → Grid → ℕ → Lent F → ℕ → Lent G → Lent H → Lent I → Map-call
+map-call picture grid attribute steps gap workspace residue index =
     mapping-of
     (now (picture .entry))
     grid
     attribute
     (now (steps .entry))
+    gap
     (now (workspace .entry))
     (now (residue .entry))
     (now (index .entry))
@@ -173,7 +177,7 @@ map-call picture grid attribute steps workspace residue index =
 abbrev pub map-tests : Map-call → List Test
 map-tests call =
     picture-tests (call .grid) (length (call .picture)) (call .attribute)
-    ++ (steps-good (call .steps), Steps)
+    ++ (steps-good (call .steps), Steps) ∷ (gap-good (call .gap), Gap)
     ∷ workspace-test (call .grid) (length (call .workspace))
     ∷ output-test (call .grid) (length (call .residue))
     ∷ output-test (call .grid) (length (call .index))
@@ -191,12 +195,12 @@ unfoldable pub map-residue : Map-call → List ℕ
 map-residue call =
     after
     (map-verdict call)
-    (residue-map (call .grid) (call .attribute) (call .steps) (call .picture))
+    (residue-map (call .grid) (call .attribute) (call .steps) (call .gap) (call .picture))
     (call .residue)
 
 unfoldable pub map-index : Map-call → List ℕ
 map-index call =
     after
     (map-verdict call)
-    (index-map (call .grid) (call .attribute) (call .steps) (call .picture))
+    (index-map (call .grid) (call .attribute) (call .steps) (call .gap) (call .picture))
     (call .index)

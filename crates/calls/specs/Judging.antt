@@ -7,7 +7,7 @@ use lib.ListN.{length}
 use Rattle.opening.specs.Residue.{rising}
 use Rattle.grid.specs.Pixels.{pixels}
 use Rattle.grid.specs.declared.Grid.{Grid}
-use Rattle.causes.specs.Bounds.{top-threshold, most-steps, words-a-pixel}
+use Rattle.causes.specs.Bounds.{top-threshold, most-steps, most-gap, words-a-pixel}
 use Rattle.causes.specs.Causes.{number-of}
 use Rattle.causes.specs.Sides.{sides-fit}
 use Rattle.causes.specs.declared.Cause.{Cause}
@@ -35,6 +35,10 @@ all-good (threshold ∷ rest) = threshold-good threshold && all-good rest
 -- "A step list has 1 to 256 thresholds, strictly rising, each in the range above"
 unfoldable pub steps-good : List ℕ → Bool
 steps-good steps = leb 1 (length steps) && leb (length steps) most-steps && (rising 0 steps && all-good steps)
+
+-- "A gap number from 0 to 256"
+unfoldable pub gap-good : ℕ → Bool
+gap-good gap = leb gap most-gap
 
 -- a test on a call, and the cause that applies where it fails
 abbrev pub Test : Type 0

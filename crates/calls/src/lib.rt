@@ -4,7 +4,7 @@ ghost use mathlib.Core.Path.{_≡_};
 ghost use lib.Dec.{eqb};
 ghost use Rattle.causes.specs.Bounds.{words-a-pixel};
 ghost use Rattle.grid.specs.Pixels.{pixels};
-ghost use Rattle.calls.specs.Judging.{attribute-good, neighbours-good, threshold-good, steps-good, also, verdict-of, picture-tests};
+ghost use Rattle.calls.specs.Judging.{attribute-good, neighbours-good, threshold-good, steps-good, gap-good, also, verdict-of, picture-tests};
 use grid::Grid;
 
 // Whether a call is accepted, and if not the first cause that applies. This is also what an opening call and a map call answer.
@@ -90,6 +90,12 @@ pub fn steps_good(steps: &[u32]) -> bool
         i += 1;
     }
     true
+}
+
+pub fn gap_good(gap: u32) -> bool
+    ensures answer { λ r. ⌜ r ≡ gap-good gap ⌝ }
+{
+    gap <= causes::MOST_GAP
 }
 
 // Whether a lent run has one entry for each pixel.

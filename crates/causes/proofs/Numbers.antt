@@ -6,12 +6,12 @@ use native.Mathlib.Omega.{arith}
 use lib.ListN.{getD}
 use Rattle.causes.specs.Causes.{number-of}
 use Rattle.causes.specs.declared.Cause.{Cause}
-use Rattle.causes.specs.declared.Cause.the-variants.{Sides, PictureLength, Attribute, Steps, Workspace, Output, Buffer, Sign, Header, Maximum, RasterLength, Sample, StepsFile, TooLarge, NotRead, Neighbours}
+use Rattle.causes.specs.declared.Cause.the-variants.{Sides, PictureLength, Attribute, Steps, Workspace, Output, Buffer, Sign, Header, Maximum, RasterLength, Sample, StepsFile, TooLarge, NotRead, Neighbours, Gap}
 
--- the causes in the order of their numbers, from 1; no cause has the number 16, and any stands there
+-- the causes in the order of their numbers, from 1; no cause has the numbers 16 and 18, and any stands there
 abbrev in-order : List Cause
 in-order =
-    Sides ∷ PictureLength ∷ Attribute ∷ Steps ∷ Workspace ∷ Output ∷ Buffer ∷ Sign ∷ Header ∷ Maximum ∷ RasterLength ∷ Sample ∷ StepsFile ∷ TooLarge ∷ NotRead ∷ Sides ∷ Neighbours ∷ []
+    Sides ∷ PictureLength ∷ Attribute ∷ Steps ∷ Workspace ∷ Output ∷ Buffer ∷ Sign ∷ Header ∷ Maximum ∷ RasterLength ∷ Sample ∷ StepsFile ∷ TooLarge ∷ NotRead ∷ Sides ∷ Neighbours ∷ Sides ∷ Gap ∷ []
 
 abbrev cause-of : ℕ → Cause
 cause-of number = getD in-order (number - 1) Sides
@@ -33,6 +33,7 @@ cause-back StepsFile = refl
 cause-back TooLarge = refl
 cause-back NotRead = refl
 cause-back Neighbours = refl
+cause-back Gap = refl
 
 pub number-determined : (c d : Cause) → number-of c ≡ number-of d → c ≡ d
 number-determined c d e = sym (cause-back c) ∙ ap cause-of e ∙ cause-back d
@@ -55,3 +56,4 @@ number-positive StepsFile = omega arith
 number-positive TooLarge = omega arith
 number-positive NotRead = omega arith
 number-positive Neighbours = omega arith
+number-positive Gap = omega arith

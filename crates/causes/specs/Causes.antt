@@ -2,7 +2,7 @@
 use Prim.Native.Nat.{ℕ}
 use mathlib.Core.Bool.{Bool, cond}
 use Rattle.causes.specs.declared.Cause.{Cause}
-use Rattle.causes.specs.declared.Cause.the-variants.{Sides, PictureLength, Attribute, Steps, Workspace, Output, Buffer, Sign, Header, Maximum, RasterLength, Sample, StepsFile, TooLarge, NotRead, Neighbours}
+use Rattle.causes.specs.declared.Cause.the-variants.{Sides, PictureLength, Attribute, Steps, Workspace, Output, Buffer, Sign, Header, Maximum, RasterLength, Sample, StepsFile, TooLarge, NotRead, Neighbours, Gap}
 
 abbrev pub number-of : Cause → ℕ
 -- width or height outside 1..4,096, or n above 1,048,576
@@ -37,6 +37,8 @@ number-of TooLarge = 14
 number-of NotRead = 15
 -- neighbourhood neither 4 nor 8
 number-of Neighbours = 17
+-- gap above 256
+number-of Gap = 19
 
 -- the answer where the test holds, else the refusal by the cause
 abbrev pub must : {A : Type 0} → (Cause → A) → Bool → Cause → A → A

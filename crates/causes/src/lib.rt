@@ -12,6 +12,8 @@ pub const TOP_THRESHOLD: u32 = 1048577;
 
 pub const MOST_STEPS: usize = 256;
 
+pub const MOST_GAP: u32 = 256;
+
 pub const WORDS_A_PIXEL: usize = 7;
 
 pub enum Cause {
@@ -31,6 +33,7 @@ pub enum Cause {
     TooLarge,
     NotRead,
     Neighbours,
+    Gap,
 }
 
 pub fn number(cause: Cause) -> u32
@@ -53,6 +56,7 @@ pub fn number(cause: Cause) -> u32
         Cause::TooLarge => 14,
         Cause::NotRead => 15,
         Cause::Neighbours => 17,
+        Cause::Gap => 19,
     }
 }
 
