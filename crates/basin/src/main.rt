@@ -93,6 +93,7 @@ fn sized(
     grid: Grid,
     attribute: u32,
     steps: &[u32],
+    gap: u32,
     workspace: &mut [u32],
     residue: &mut [u8],
     index: &mut [u16],
@@ -107,6 +108,7 @@ fn sized(
         grid,
         attribute,
         steps,
+        gap,
         &mut workspace[..causes::WORDS_A_PIXEL * n],
         &mut residue[..n],
         &mut index[..n],
@@ -118,7 +120,7 @@ fn sized(
 }
 
 // Prints the maps of a picture of at most 2,048 pixels.
-fn maps(picture: &[u8], grid: Grid, attribute: u32, steps: &[u32])
+fn maps(picture: &[u8], grid: Grid, attribute: u32, steps: &[u32], gap: u32)
     requires { ⌜ length (now picture) ≤ most-sized ⌝ }
 {
     let mut workspace = words();
@@ -129,6 +131,7 @@ fn maps(picture: &[u8], grid: Grid, attribute: u32, steps: &[u32])
         grid,
         attribute,
         steps,
+        gap,
         &mut workspace,
         &mut residue,
         &mut index,
@@ -143,7 +146,14 @@ fn answer(file: &[u8], list: &[u8]) {
             grid,
             attribute,
             count,
-        } => maps(pgm::raster(file), grid, attribute, &thresholds[..count]),
+            gap,
+        } => maps(
+            pgm::raster(file),
+            grid,
+            attribute,
+            &thresholds[..count],
+            gap,
+        ),
         Job::Refused(cause) => refused(cause),
     }
 }

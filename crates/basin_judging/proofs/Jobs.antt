@@ -27,7 +27,7 @@ use Rattle.basin_judging.specs.declared.Lengths.{Lengths}
 use Rattle.basin_judging.specs.declared.Lengths.the-variants.{Both, Refused as Not-both}
 use Rattle.basin_judging.specs.declared.Job.{Job}
 use Rattle.basin_judging.specs.declared.Job.the-variants.{Size, Refused}
-use Rattle.basin_judging.specs.Judging.{longest-file, most-sized, both-read, lengths-numbers, basin-grid, sized-by, judged-with, job-of, job-numbers, job-steps}
+use Rattle.basin_judging.specs.Judging.{longest-file, most-sized, both-read, lengths-numbers, basin-grid, basin-gap, sized-by, judged-with, job-of, job-numbers, job-steps}
 
 -- an answer's numbers determine it
 pub lengths-determined : (r s : Lengths) → lengths-numbers r ≡ lengths-numbers s → r ≡ s
@@ -37,9 +37,9 @@ lengths-determined (Not-both c) (Both k l) e = absurd (omega (arith, ap length e
 lengths-determined (Not-both c) (Not-both d) e = ap Not-both (number-determined c d (cc e))
 
 pub job-determined : (r s : Job) → job-numbers r ≡ job-numbers s → r ≡ s
-job-determined (Size f a k) (Size g b l) e = let grids : f ≡ g = same-grid f g (cc e) (cc e) (cc e) in cc
-job-determined (Size f a k) (Refused d) e = absurd (omega (arith, ap length e))
-job-determined (Refused c) (Size g b l) e = absurd (omega (arith, ap length e))
+job-determined (Size f a k u) (Size g b l v) e = let grids : f ≡ g = same-grid f g (cc e) (cc e) (cc e) in cc
+job-determined (Size f a k u) (Refused d) e = absurd (omega (arith, ap length e))
+job-determined (Refused c) (Size g b l v) e = absurd (omega (arith, ap length e))
 job-determined (Refused c) (Refused d) e = ap Refused (number-determined c d (cc e))
 
 -- what a call of the parser that answered p says of the file
@@ -65,7 +65,7 @@ module _ (a b : Loaded) (p : ℕ) (is : a ≡ Bytes p) where
     both-fit k l = rw (is, list-is, le-ltb longest-file p k, le-ltb longest-file s l) refl
 
 -- the steps file
-pub by-list : (grid : Grid) (attribute count : ℕ) (parsed : Parsed) → parsed ≡ Steps attribute count → Size grid attribute count ≡ sized-by grid parsed
+pub by-list : (grid : Grid) (attribute count : ℕ) (parsed : Parsed) → parsed ≡ Steps attribute count → Size grid attribute count basin-gap ≡ sized-by grid parsed
 by-list grid attribute count parsed e = rw e refl
 
 pub by-cause : (grid : Grid) (cause : Cause) (parsed : Parsed) → parsed ≡ Not-parsed cause → Refused cause ≡ sized-by grid parsed
@@ -94,27 +94,27 @@ pub record Sizing (file list lent : List ℕ) (attribute count : ℕ) : Type 0 w
   pub parsed : parse-answer list ≡ Steps attribute count
   pub stored : job-steps file list lent ≡ steps-after list lent
 
-steps-of : (g grid : Grid) (attribute count : ℕ) (parsed : Parsed) → sized-by g parsed ≡ Size grid attribute count → parsed ≡ Steps attribute count
-steps-of g grid attribute count (Steps a c) e = let f : a ≡ attribute = cc in let h : c ≡ count = cc in rw (f, h) refl
-steps-of g grid attribute count (Not-parsed cause) e = let z : _≡_ {A = ℕ} 0 1 = cc in absurd (omega arith)
+steps-of : (g grid : Grid) (attribute count gap : ℕ) (parsed : Parsed) → sized-by g parsed ≡ Size grid attribute count gap → parsed ≡ Steps attribute count
+steps-of g grid attribute count gap (Steps a c) e = let f : a ≡ attribute = cc in let h : c ≡ count = cc in rw (f, h) refl
+steps-of g grid attribute count gap (Not-parsed cause) e = let z : _≡_ {A = ℕ} 0 1 = cc in absurd (omega arith)
 
-module _ (file list lent : List ℕ) (grid : Grid) (attribute count : ℕ) where
-  within : (found : Found) → read-answer file ≡ found → judged-with found (parse-answer list) ≡ Size grid attribute count → Sizing file list lent attribute count
+module _ (file list lent : List ℕ) (grid : Grid) (attribute count gap : ℕ) where
+  within : (found : Found) → read-answer file ≡ found → judged-with found (parse-answer list) ≡ Size grid attribute count gap → Sizing file list lent attribute count
   unfolding job-steps
   within (Not-found cause) is e = let z : _≡_ {A = ℕ} 0 1 = cc in absurd (omega arith)
   within (Picture w h maximum start) is e = go (ltb most-sized (pixels (basin-grid w h))) refl
     where
       go : (large : Bool) → ltb most-sized (pixels (basin-grid w h)) ≡ large → Sizing file list lent attribute count
-      go true l = let f : Refused TooLarge ≡ Size grid attribute count = sym (rw l refl) ∙ e in let z : _≡_ {A = ℕ} 0 1 = cc in absurd (omega arith)
+      go true l = let f : Refused TooLarge ≡ Size grid attribute count gap = sym (rw l refl) ∙ e in let z : _≡_ {A = ℕ} 0 1 = cc in absurd (omega arith)
       go false l =
-          let f : sized-by (basin-grid w h) (parse-answer list) ≡ Size grid attribute count = sym (rw l refl) ∙ e in
+          let f : sized-by (basin-grid w h) (parse-answer list) ≡ Size grid attribute count gap = sym (rw l refl) ∙ e in
           record {
             few = omega (arith, accepted-page file w h maximum start is .raster-length, ltb-false most-sized (pixels (basin-grid w h)) l);
-            parsed = steps-of (basin-grid w h) grid attribute count (parse-answer list) f;
+            parsed = steps-of (basin-grid w h) grid attribute count gap (parse-answer list) f;
             stored = rw (is, l) refl;
           }
 
-  pub sizing : (r : Job) → job-numbers r ≡ job-numbers (job-of file list) → r ≡ Size grid attribute count → Sizing file list lent attribute count
+  pub sizing : (r : Job) → job-numbers r ≡ job-numbers (job-of file list) → r ≡ Size grid attribute count gap → Sizing file list lent attribute count
   unfolding job-of
   sizing r e is = within (read-answer file) refl (sym (job-determined r (job-of file list) e) ∙ is)
 

@@ -39,14 +39,18 @@ abbrev pub lengths-numbers : Lengths → List ℕ
 lengths-numbers (Both p s) = 0 ∷ p ∷ s ∷ []
 lengths-numbers (Not-both cause) = number-of cause ∷ []
 
--- 0, the grid, the attribute and how many steps, or the number of the cause
+-- 0, the grid, the attribute, how many steps and the gap, or the number of the cause
 abbrev pub job-numbers : Job → List ℕ
-job-numbers (Size grid attribute count) = 0 ∷ grid .width ∷ grid .height ∷ grid .neighbours ∷ attribute ∷ count ∷ []
+job-numbers (Size grid attribute count gap) = 0 ∷ grid .width ∷ grid .height ∷ grid .neighbours ∷ attribute ∷ count ∷ gap ∷ []
 job-numbers (Refused cause) = number-of cause ∷ []
+
+-- "A gap number [..] named in every map call and 0 in the program"
+abbrev pub basin-gap : ℕ
+basin-gap = 0
 
 -- a picture with its grid, by the answer on the steps file
 abbrev pub sized-by : Grid → Parsed → Job
-sized-by grid (Steps attribute count) = Size grid attribute count
+sized-by grid (Steps attribute count) = Size grid attribute count basin-gap
 sized-by grid (Not-parsed cause) = Refused cause
 
 -- "The program stays at 4."

@@ -10,6 +10,9 @@ const LONGEST_FILE: usize = 4096;
 
 const MOST_SIZED: usize = 2048;
 
+// The gap that the program names.
+const GAP: u32 = 0;
+
 // How many bytes a file has, up to the length of the buffer that it was read into, or that it was not opened or read.
 pub enum Loaded {
     Bytes(usize),
@@ -22,12 +25,13 @@ pub enum Lengths {
     Refused(Cause),
 }
 
-// What is to be sized, and by how many steps.
+// What is to be sized, and by how many steps and which gap.
 pub enum Job {
     Size {
         grid: Grid,
         attribute: u32,
         count: usize,
+        gap: u32,
     },
     Refused(Cause),
 }
@@ -65,6 +69,7 @@ fn by_steps(grid: Grid, list: &[u8], thresholds: &mut [u32; 256]) -> Job
                 grid: grid,
                 attribute: attribute,
                 count: count,
+                gap: GAP,
             };
         }
         steps::Parsed::Refused(cause) => {

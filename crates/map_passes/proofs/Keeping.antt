@@ -1,4 +1,4 @@
--- The words of the nodes are as they were where only the third part is written.
+-- The words of the nodes are as they were where only the third part and the last are written.
 use Prim.Native.Nat.{ℕ, _+_, _*_, _/_, _%_, _<_}
 use mathlib.Core.List.{List}
 use mathlib.Core.Path.{_≡_, ap}
@@ -12,14 +12,14 @@ use Rattle.map_passes.specs.Passes.{Kept}
 
 -- what is read of the words that are kept
 module _ {n : ℕ} {ws ws' : List ℕ} (kept : Kept n ws ws') where
-  kept-lowest : (k : ℕ) → lowest-of n ws' k ≡ lowest-of n ws k
-  kept-lowest k = kept .back (3 * n + 3 * k) (omega arith)
+  kept-lowest : (k : ℕ) → k < n → lowest-of n ws' k ≡ lowest-of n ws k
+  kept-lowest k b = kept .middle (3 * n + 3 * k) (omega arith) (omega arith)
 
-  pub kept-up : (k : ℕ) → up-of n ws' k ≡ up-of n ws k
-  kept-up k = kept .back (3 * n + 3 * k + 1) (omega arith)
+  pub kept-up : (k : ℕ) → k < n → up-of n ws' k ≡ up-of n ws k
+  kept-up k b = kept .middle (3 * n + 3 * k + 1) (omega arith) (omega arith)
 
-  pub kept-held : (k : ℕ) → held-of n ws' k ≡ held-of n ws k
-  kept-held k = kept .back (3 * n + 3 * k + 2) (omega arith)
+  pub kept-held : (k : ℕ) → k < n → held-of n ws' k ≡ held-of n ws k
+  kept-held k b = kept .middle (3 * n + 3 * k + 2) (omega arith) (omega arith)
 
   pub kept-closed : (i : ℕ) → i < n → closed-of n ws' i ≡ closed-of n ws i
   kept-closed i b = ap (λ (v : ℕ). v / 256) (kept .front (n + i) (omega arith))
@@ -36,9 +36,9 @@ pub nodes-kept : (grid : Grid) (a : ℕ) (picture : List ℕ) {ws ws' : List ℕ
 nodes-kept grid a picture kept N =
     nodes-same
     (kept-number kept)
-    (λ k b. kept-lowest kept k)
-    (λ k b. kept-up kept k)
-    (λ k b. kept-held kept k)
+    (λ k b. kept-lowest kept k (omega (arith, N .few)))
+    (λ k b. kept-up kept k (omega (arith, N .few)))
+    (λ k b. kept-held kept k (omega (arith, N .few)))
     (λ i b. kept-closed kept i (omega (arith, N .few)))
     (λ i b. kept-drop kept i (omega (arith, N .few)))
     N

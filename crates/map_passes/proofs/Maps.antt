@@ -1,6 +1,5 @@
 -- Both passes together: every pixel finds the pair of its node, and what they leave is what the definition says of the grid's pictures.
-use Prim.Native.Nat.{ℕ, _%_, _≤_, _<_}
-use mathlib.Core.Bool.{true}
+use Prim.Native.Nat.{ℕ, _≤_, _<_}
 use mathlib.Core.List.{List}
 use mathlib.Core.Path.{_≡_, subst, _∙_}
 use native.Mathlib.Omega.{arith}
@@ -8,7 +7,7 @@ use lib.ListN.{length, length-map}
 use Rattle.sets.specs.Sets.{Positions, table}
 use Rattle.sets.proofs.Laws.{table-ext}
 use Rattle.opening.specs.Opening.{least-grey, Increasing, at-least}
-use Rattle.opening.specs.Residue.{rising, threshold-tests}
+use Rattle.opening.specs.Residue.{threshold-tests}
 use Rattle.opening.proofs.Residue.{threshold-tests-narrow}
 use Rattle.grid.specs.Pixels.{pixels}
 use Rattle.grid.specs.Neighbours.{adjacent}
@@ -21,38 +20,39 @@ use Rattle.causes.specs.Bounds.{most-pixels}
 use Rattle.calls.specs.Calls.{grey, residue-map, index-map}
 use Rattle.levels.specs.Workspace.{up-of}
 use Rattle.numbers.specs.Nodes.{NodesOf}
-use Rattle.map_passes.specs.Settle.{index-in}
-use Rattle.map_passes.specs.Passes.{Climbable, Given, word-at, place-at, Settled, Settled-from, pair-at, Spreadable, Ready, Written}
+use Rattle.map_passes.specs.Settle.{total-in, index-in, run-at, pair-at}
+use Rattle.map_passes.specs.Passes.{Climbable, Given, place-at, Settled, Settled-from, pair-for, Spreadable, Ready, Written}
 use Rattle.map_passes.proofs.Climbing.{nodes-climbable}
 use Rattle.map_passes.proofs.Keeping.{kept-number}
-use Rattle.map_passes.proofs.Right.{places-right, word-right}
+use Rattle.map_passes.proofs.Right.{places-right, pair-right}
 
-module _ {n nodes : ℕ} {steps ws ws' : List ℕ} (prog : Settled-from n nodes steps ws ws' 0) where
+module _ {n nodes gap : ℕ} {steps ws ws' : List ℕ} (prog : Settled-from n nodes gap steps ws ws' 0) where
   -- at the end every node is settled
   settled-all : {level : ℕ → ℕ} → Climbable n nodes level ws → (k : ℕ) → k < nodes
-      → Settled (length steps) (place-at n steps ws) level (up-of n ws) (word-at n ws') k
+      → Settled (length steps) gap (place-at n steps ws) level (up-of n ws) (run-at n ws') (pair-at n ws') k
   settled-all {level} climb k b =
       let (j, l, e) = climb .order .place k b in
       subst
-      (Settled (length steps) (place-at n steps ws) level (up-of n ws) (word-at n ws'))
+      (Settled (length steps) gap (place-at n steps ws) level (up-of n ws) (run-at n ws') (pair-at n ws'))
       e
       (prog .done level climb j (omega arith) l)
 
   -- the pass over the pixels finds the numbers as they were
-  passes-spreads : Given n nodes steps ws → {residues indices : ℕ} → residues ≡ n → indices ≡ n → Spreadable n ws' residues indices
+  passes-spreads : Given n nodes gap steps ws → {residues indices : ℕ} → residues ≡ n → indices ≡ n → Spreadable n ws' residues indices
   passes-spreads given residues-size indices-size = record {
     ws-size = prog .kept .words ∙ given .ws-size;
     residues-size = residues-size;
     indices-size = indices-size;
     within = λ q b. rw (kept-number (prog .kept) q b) (omega (arith, given .climb .within q b, given .climb .few));
+    fits = λ q b. rw (kept-number (prog .kept) q b) (settled-all (given .climb) _ (given .climb .within q b) .fits);
   }
 
 -- on a grid the pass over the pixels leaves the maps
-module _ (grid : Grid) (a : ℕ) (picture : List ℕ) (wide : 1 ≤ grid .width) (few : pixels grid ≤ most-pixels) {nodes : ℕ}
-    {steps ws ws' : List ℕ} (size : length picture ≡ pixels grid) (rises : rising 0 steps ≡ true) (prog : Settled-from (length picture) nodes steps ws ws' 0)
-    (N : NodesOf grid a picture ws nodes) (bytes : (q : ℕ) → grey picture q < 256) where
-  maps-grid : (table (length picture) (λ (q : ℕ). pair-at (length picture) ws' q % 256) ≡ residue-map grid a steps picture)
-      × (table (length picture) (λ (q : ℕ). index-in (pair-at (length picture) ws' q)) ≡ index-map grid a steps picture)
+module _ (grid : Grid) (a : ℕ) (picture : List ℕ) (wide : 1 ≤ grid .width) (few : pixels grid ≤ most-pixels) {nodes gap : ℕ}
+    {steps ws ws' : List ℕ} (size : length picture ≡ pixels grid) (given : Given (length picture) nodes gap steps ws)
+    (prog : Settled-from (length picture) nodes gap steps ws ws' 0) (N : NodesOf grid a picture ws nodes) (bytes : (q : ℕ) → grey picture q < 256) where
+  maps-grid : (table (length picture) (λ (q : ℕ). total-in (pair-for (length picture) ws' q)) ≡ residue-map grid a steps gap picture)
+      × (table (length picture) (λ (q : ℕ). index-in (pair-for (length picture) ws' q)) ≡ index-map grid a steps gap picture)
   unfolding residue-map index-map
   maps-grid =
       let attr : Positions → ℕ = attribute grid a in
@@ -61,15 +61,17 @@ module _ (grid : Grid) (a : ℕ) (picture : List ℕ) (wide : 1 ≤ grid .width)
       → Together (length picture) (adjacent grid) (grey picture) (least-grey (length picture) (grey picture)) p q =
       rw size (grid-whole grid wide (grey picture)) in
       let right =
-      word-right
+      pair-right
       (adjacent-symmetric grid)
       N
       whole
       (at-least attr 0)
       (threshold-tests attr steps)
-      (threshold-tests-narrow (length picture) attr rise 0 steps rises)
+      (threshold-tests-narrow (length picture) attr rise 0 steps (given .rise))
       (length-map steps (at-least attr))
-      (places-right (adjacent-symmetric grid) N whole rise steps rises)
+      (given .few)
+      (given .narrow)
+      (places-right (adjacent-symmetric grid) N whole rise steps (given .rise))
       bytes
       (settled-all prog (nodes-climbable N bytes)) in
       rw (← size) (
@@ -78,20 +80,20 @@ module _ (grid : Grid) (a : ℕ) (picture : List ℕ) (wide : 1 ≤ grid .width)
       )
 
 -- what the pass over the pixels is given, and what both passes leave
-module _ {nodes : ℕ} {picture steps ws ws' residues indices : List ℕ} (ready : Ready picture steps nodes ws residues indices)
-    (prog : Settled-from (length picture) nodes steps ws ws' 0) where
+module _ {gap nodes : ℕ} {picture steps ws ws' residues indices : List ℕ} (ready : Ready picture steps gap nodes ws residues indices)
+    (prog : Settled-from (length picture) nodes gap steps ws ws' 0) where
   pub passes-spread : Spreadable (length picture) ws' (length residues) (length indices)
   passes-spread = passes-spreads prog (ready .given) (ready .residues-size) (ready .indices-size)
 
   pub passes-written : {best index : List ℕ} → ((q : ℕ) → grey picture q < 256)
-      → (best ≡ table (length picture) (λ (q : ℕ). pair-at (length picture) ws' q % 256))
-      × (index ≡ table (length picture) (λ (q : ℕ). index-in (pair-at (length picture) ws' q)))
-      → Written picture steps nodes ws ws' best index
+      → (best ≡ table (length picture) (λ (q : ℕ). total-in (pair-for (length picture) ws' q)))
+      × (index ≡ table (length picture) (λ (q : ℕ). index-in (pair-for (length picture) ws' q)))
+      → Written picture steps gap nodes ws ws' best index
   passes-written bytes (is-best, is-index) =
       record {
         kept = prog .kept;
         maps =
             λ grid a wide few size N.
-            let maps = maps-grid grid a picture wide few size (ready .given .rise) prog N bytes in
+            let maps = maps-grid grid a picture wide few size (ready .given) prog N bytes in
             (is-best ∙ maps .0, is-index ∙ maps .1);
       }

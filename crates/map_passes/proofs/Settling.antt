@@ -1,119 +1,148 @@
--- One node: the numbers that its settling computes are those of the definitions, and they fit.
-use Prim.Native.Nat.{ℕ, _+_, _*_, _/_, _%_, _≤_, _<_}
-use mathlib.Core.Bool.{cond}
+-- One node: the numbers that its settling computes are those of the definitions, and they fit; and what is stored.
+use Prim.Native.Nat.{ℕ, _+_, _*_, _≤_, _<_}
+use mathlib.Core.Bool.{Bool, true, false, cond}
 use mathlib.Core.List.{List}
-use mathlib.Core.Path.{_≡_, refl}
+use mathlib.Core.Logic.{⊎-elim}
+use mathlib.Core.Path.{_≡_, refl, _∙_}
 use native.Mathlib.Nat.{le-refl}
 use native.Mathlib.Omega.{arith}
-use lib.Dec.{eqb, ltb}
-use lib.ListN.{getD, set}
+use lib.Dec.{ltb}
+use lib.ListN.{length, getD, set, length-set}
+use lib.Seq.{getD-set-same, getD-set-other}
 use borrow.Author.Tests.{lt-ltb, le-ltb, ltb-true}
+use Rattle.sets.proofs.Tests.{decided}
 use Rattle.opening.proofs.Levels.{cond-case}
-use Rattle.causes.specs.Bounds.{most-steps}
-use Rattle.map_passes.specs.Settle.{run-in, pair-in, index-in, shared-fall, fall-of, run-of, pair-of, word-of, Settleable, settled-at}
+use Rattle.causes.specs.Bounds.{words-a-pixel, most-steps}
+use Rattle.levels.specs.Tables.{Changed}
+use Rattle.map_passes.specs.Settle.{end-in, total-in, index-in, place-in, own-in, never, near, shared-pair, own-of, run-of, pair-of, run-word, pair-word, run-at, pair-at, stored, Settleable, settled-at}
 
-shared-le : (run k : ℕ) → shared-fall run k ≤ run % 256
-unfolding shared-fall
-shared-le run k = cond-case (λ (x : ℕ). x ≤ run % 256) (eqb (run / 256) k) (λ e. le-refl (run % 256)) (λ e. omega arith)
+-- what is read of one of two numbers, whichever is chosen
+pub read-chosen : (f : ℕ → ℕ) (t : Bool) (x y u v : ℕ) → (t ≡ true → f x ≡ u) → (t ≡ false → f y ≡ v) → f (cond t x y) ≡ cond t u v
+read-chosen f t x y u v one other = ⊎-elim (λ (e : t ≡ true). rw e (one e)) (λ (e : t ≡ false). rw e (other e)) (decided t)
 
--- the numbers of a node that never falls, and of one that does
-module _ (m k fall run : ℕ) where
-  pub run-never : m ≤ k → run-of m k fall run ≡ 0
-  unfolding run-of
+-- the words of a node that never falls, and of one that does
+module _ (m gap k fall run : ℕ) where
+  pub run-never : m ≤ k → run-word m gap k fall run ≡ never
+  unfolding run-word
   run-never l = rw (le-ltb k m l)
 
-  pub run-falls : k < m → run-of m k fall run ≡ k * 256 + fall-of k fall run
-  unfolding run-of
+  pub run-falls : k < m → run-word m gap k fall run ≡ run-of gap k fall run
+  unfolding run-word
   run-falls l = rw (lt-ltb k m l)
 
   module _ (pair : ℕ) where
-    pub pair-never : m ≤ k → pair-of m k fall run pair ≡ 0
-    unfolding pair-of
+    pub pair-never : m ≤ k → pair-word m gap k fall run pair ≡ 0
+    unfolding pair-word
     pair-never l = rw (le-ltb k m l)
 
-    pair-falls : k < m
-        → pair-of m k fall run pair ≡ cond (ltb (pair % 256) (fall-of k fall run)) (k * 256 + fall-of k fall run) pair
-    unfolding pair-of
+    pub pair-falls : k < m → pair-word m gap k fall run pair ≡ pair-of gap k fall run pair
+    unfolding pair-word
     pair-falls l = rw (lt-ltb k m l)
 
-    -- what is read of the pair of a node that falls, if its running fall is a byte
-    module _ (l : k < m) (byte : fall-of k fall run < 256) where
-      pub pair-residue : pair-of m k fall run pair % 256 ≡ cond (ltb (pair % 256) (fall-of k fall run)) (fall-of k fall run) (pair % 256)
-      pair-residue =
-          rw
-          (pair-falls l)
-          (cond-case
-          (λ (x : ℕ). x % 256 ≡ cond (ltb (pair % 256) (fall-of k fall run)) (fall-of k fall run) (pair % 256))
-          (ltb (pair % 256) (fall-of k fall run))
-          (λ e. rw e (omega arith))
-          (λ e. rw e refl))
+-- a node that falls at place k, with a total that is a byte, from its parent's run word
+module _ (gap k fall run : ℕ) (few : k < most-steps) (byte : fall + total-in (own-in run) < 256) where
+  -- where its run ends, and the total before its own fall
+  shared-end : end-in (shared-pair gap k run) ≡ cond (near gap k run) (end-in (own-in run)) k
+  unfolding shared-pair
+  shared-end = read-chosen end-in (near gap k run) _ _ _ _ (λ e. refl) (λ e. omega arith)
 
-      pub pair-index : index-in (pair-of m k fall run pair) ≡ cond (ltb (pair % 256) (fall-of k fall run)) (k + 1) (index-in pair)
-      pair-index =
-          rw
-          (pair-falls l)
-          (cond-case
-          (λ (x : ℕ). index-in x ≡ cond (ltb (pair % 256) (fall-of k fall run)) (k + 1) (index-in pair))
-          (ltb (pair % 256) (fall-of k fall run))
-          (λ e. rw e (omega (arith, ltb-true (pair % 256) (fall-of k fall run) e)))
-          (λ e. rw e refl))
+  shared-total : total-in (shared-pair gap k run) ≡ cond (near gap k run) (total-in (own-in run)) 0
+  unfolding shared-pair
+  shared-total = read-chosen total-in (near gap k run) _ _ _ _ (λ e. refl) (λ e. omega arith)
 
--- a node that falls at place k of m steps, if it does, with a running fall that is a byte
-module _ (m k fall word : ℕ) (few : m ≤ most-steps) (byte : k < m → fall + run-in word % 256 < 256) where
-  fall-le : {s : ℕ} → s ≡ shared-fall (run-in word) k → fall + s ≤ fall + run-in word % 256
-  fall-le f = omega (arith, shared-le (run-in word) k)
+  shared-le : total-in (shared-pair gap k run) ≤ total-in (own-in run)
+  shared-le =
+      rw shared-total (cond-case (λ (x : ℕ). x ≤ total-in (own-in run)) (near gap k run) (λ e. le-refl (total-in (own-in run))) (λ e. omega arith))
 
-  -- its running fall is at most its grey h, if the parent's is at most the parent's
-  pub run-low : {h : ℕ} → h < 256 → (k < m → fall + run-in word % 256 ≤ h) → run-of m k fall (run-in word) % 256 ≤ h
-  unfolding run-of fall-of
-  run-low {h} grey low =
-      cond-case
-      (λ (w : ℕ). w % 256 ≤ h)
-      (ltb k m)
-      (λ e. omega (arith, fall-le refl, low (ltb-true k m e)))
-      (λ e. omega arith)
+  shared-small : shared-pair gap k run < 65536
+  unfolding shared-pair
+  shared-small = cond-case (λ (x : ℕ). x < 65536) (near gap k run) (λ e. omega arith) (λ e. omega arith)
 
-  -- the pair fits 16 bits, so the word holds the run and the pair
-  best-fits : {s : ℕ} → k < m → s ≡ shared-fall (run-in word) k
-      → cond (ltb (pair-in word % 256) (fall + s)) (k * 256 + (fall + s)) (pair-in word) < 65536
-  best-fits {s} l f =
-      cond-case
-      (λ (x : ℕ). x < 65536)
-      (ltb (pair-in word % 256) (fall + s))
-      (λ e. omega (arith, fall-le f, byte l, few))
-      (λ e. omega arith)
+  -- the fall stays within the byte, so the pair of its run ends there
+  pub own-end : end-in (own-of gap k fall run) ≡ cond (near gap k run) (end-in (own-in run)) k
+  unfolding own-of
+  own-end = omega (arith, shared-le, shared-end)
 
-  pair-fits : pair-of m k fall (run-in word) (pair-in word) < 65536
-  unfolding pair-of fall-of
-  pair-fits =
-      cond-case (λ (x : ℕ). x < 65536) (ltb k m) (λ e. best-fits (ltb-true k m e) refl) (λ e. omega arith)
+  pub own-total : total-in (own-of gap k fall run) ≡ fall + cond (near gap k run) (total-in (own-in run)) 0
+  unfolding own-of
+  own-total = omega (arith, shared-le, shared-total)
 
-  pub word-run : run-in (word-of m k fall word) ≡ run-of m k fall (run-in word)
-  word-run = omega (arith, pair-fits)
+  pub own-le : total-in (own-of gap k fall run) ≤ fall + total-in (own-in run)
+  unfolding own-of
+  own-le = omega (arith, shared-le)
 
-  pub word-pair : pair-in (word-of m k fall word) ≡ pair-of m k fall (run-in word) (pair-in word)
-  word-pair = omega (arith, pair-fits)
+  pub own-small : own-of gap k fall run < 65536
+  unfolding own-of
+  own-small = omega (arith, shared-le, shared-small)
 
--- what the code stores
-module _ {m place fall k up : ℕ} {held : List ℕ} (ready : Settleable m place fall k up held) where
-  abbrev word : ℕ
-  word = getD held up 0
+  -- what is read of its run word
+  pub run-place-in : place-in (run-of gap k fall run) ≡ k
+  unfolding run-of
+  run-place-in = omega (arith, own-small)
 
-  -- for a node that never falls
-  pub stored-never : m ≤ place → set held k 0 ≡ settled-at m place fall k up held
-  unfolding settled-at
-  stored-never never = rw (run-never m place fall (run-in word) never, pair-never m place fall (run-in word) (pair-in word) never) refl
+  pub run-own-in : own-in (run-of gap k fall run) ≡ own-of gap k fall run
+  unfolding run-of
+  run-own-in = omega (arith, own-small)
 
-  -- for one that does, s being what it shares with its parent, and best its pair
-  module _ {s : ℕ} (falls : place < m) (f : s ≡ shared-fall (run-in word) place) where
-    pub fall-byte : fall + s < 256
-    fall-byte = omega (arith, shared-le (run-in word) place, ready .byte falls)
+  -- what is read of its pair
+  module _ (pair : ℕ) where
+    abbrev wins : Bool
+    wins = ltb (total-in pair) (total-in (own-of gap k fall run))
 
-    module _ {best : ℕ} (is : best ≡ cond (ltb (pair-in word % 256) (fall + s)) (place * 256 + (fall + s)) (pair-in word)) where
-      pub stored-fits : best < 65536
-      stored-fits = rw is (best-fits m place fall word (ready .few) (ready .byte) falls f)
+    pub pair-residue : total-in (pair-of gap k fall run pair) ≡ cond wins (total-in (own-of gap k fall run)) (total-in pair)
+    unfolding pair-of
+    pair-residue = read-chosen total-in wins _ _ _ _ (λ e. refl) (λ e. refl)
 
-      pub stored-falls : set held k ((place * 256 + (fall + s)) * 65536 + best) ≡ settled-at m place fall k up held
-      unfolding settled-at fall-of
-      stored-falls =
-          rw (run-falls m place fall (run-in word) falls, pair-falls m place fall (run-in word) (pair-in word) falls, is, f) refl
+    pub pair-index : index-in (pair-of gap k fall run pair) ≡ cond wins (end-in (own-of gap k fall run) + 1) (index-in pair)
+    unfolding pair-of
+    pair-index =
+        read-chosen index-in wins _ _ _ _
+        (λ e. omega (arith, ltb-true (total-in pair) (total-in (own-of gap k fall run)) e))
+        (λ e. refl)
+
+    pub pair-fits : pair < 65536 → pair-of gap k fall run pair < 65536
+    unfolding pair-of
+    pair-fits l = cond-case (λ (x : ℕ). x < 65536) wins (λ e. own-small) (λ e. l)
+
+-- two words are stored: those and no others change
+module _ (n : ℕ) (ws : List ℕ) (k run pair : ℕ) where
+  pub stored-length : length (stored n k run pair ws) ≡ length ws
+  unfolding stored
+  stored-length = length-set (set ws (2 * n + k) run) (6 * n + k) pair ∙ length-set ws (2 * n + k) run
+
+  pub stored-other : (x : ℕ) → (x ≡ 2 * n + k → ⊥) → (x ≡ 6 * n + k → ⊥) → getD (stored n k run pair ws) x 0 ≡ getD ws x 0
+  unfolding stored
+  stored-other x off apart =
+      getD-set-other (set ws (2 * n + k) run) (6 * n + k) x pair 0 apart ∙ getD-set-other ws (2 * n + k) x run 0 off
+
+  module _ (size : length ws ≡ words-a-pixel * n) (b : k < n) where
+    pub stored-run : Changed n (run-at n ws) (run-at n (stored n k run pair ws)) k run
+    unfolding stored
+    stored-run = record {
+      here =
+          getD-set-other (set ws (2 * n + k) run) (6 * n + k) (2 * n + k) pair 0 (λ e. omega arith)
+          ∙ getD-set-same ws (2 * n + k) run 0 (omega arith);
+      there = λ x l off. stored-other (2 * n + x) (λ e. off (omega arith)) (λ e. omega arith);
+    }
+
+    pub stored-pair : Changed n (pair-at n ws) (pair-at n (stored n k run pair ws)) k pair
+    unfolding stored
+    stored-pair = record {
+      here = getD-set-same (set ws (2 * n + k) run) (6 * n + k) pair 0 (omega (arith, length-set ws (2 * n + k) run));
+      there = λ x l off. stored-other (6 * n + x) (λ e. omega arith) (λ e. off (omega arith));
+    }
+
+-- what the code computes for a node that falls, from what it finds that the node shares, and what is better
+module _ {gap place fall n k up : ℕ} {ws : List ℕ} (ready : Settleable gap place fall n k up ws) where
+  abbrev above : ℕ
+  above = run-at n ws up
+
+  module _ {s : ℕ} (is-shared : s ≡ shared-pair gap place above) where
+    pub settle-small : s + fall < 65536
+    unfolding own-of
+    settle-small = rw is-shared (own-small gap place fall above (ready .few) (ready .byte))
+
+    pub settle-stores : {best : ℕ} {left : List ℕ} → best ≡ cond (ltb (total-in (pair-at n ws up)) (total-in (s + fall))) (s + fall) (pair-at n ws up)
+        → left ≡ stored n k (place * 65536 + (s + fall)) best ws → left ≡ settled-at gap place fall n k up ws
+    unfolding settled-at run-of pair-of own-of
+    settle-stores is-best is = is ∙ rw (is-best, is-shared) refl

@@ -1,77 +1,65 @@
--- The turns of the pass over the nodes on the words of the workspace: a turn stores one word of the third part, and so the next goes by
--- the same words.
-use Prim.Native.Nat.{ℕ, _+_, _-_, _*_, _≤_, _<_}
+-- The turns of the pass over the nodes on the words of the workspace: a turn stores the two words of a node, and so the next goes by the
+-- same words.
+use Prim.Native.Nat.{ℕ, _-_, _*_, _≤_, _<_}
 use mathlib.Core.List.{List}
-use mathlib.Core.Path.{_≡_, refl, ap, _∙_}
+use mathlib.Core.Path.{_≡_, refl, _∙_}
 use native.Mathlib.Omega.{arith}
-use lib.ListN.{length, getD, set, take, drop, length-set}
-use lib.Seq.{getD-take, getD-drop, getD-set-same, getD-set-other}
-use borrow.Rule.Slice.PartMut.{putMid, mid-len, set-mid-at}
-use Rattle.levels.specs.Tables.{Changed}
+use lib.ListN.{length}
+use Rattle.causes.specs.Bounds.{words-a-pixel}
 use Rattle.levels.specs.Workspace.{closed-of, drop-of, up-of}
 use Rattle.places.proofs.Places.{place-of-root}
-use Rattle.map_passes.specs.Settle.{word-of, Settleable, settled-at}
-use Rattle.map_passes.specs.Passes.{Climbable, Given, word-at, place-at, Visitable, visited-at, Settled, Kept, Settled-from}
+use Rattle.map_passes.specs.Settle.{never, run-word, pair-word, run-at, pair-at, stored, Settleable, settled-at}
+use Rattle.map_passes.specs.Passes.{Climbable, Given, place-at, Visitable, visited-at, Settled, Kept, Settled-from}
 use Rattle.map_passes.proofs.Keeping.{kept-up, kept-held, kept-closed, kept-drop}
+use Rattle.map_passes.proofs.Settling.{run-never, run-falls, pair-never, pair-falls, stored-length, stored-other, stored-run, stored-pair}
 use Rattle.map_passes.proofs.Turns.{turn-drop, turn-byte, turn-settles}
 
--- the third part as it is lent on
-abbrev part : ℕ → List ℕ → List ℕ
-part n ws = take (3 * n - 2 * n) (drop (2 * n) ws)
-
--- the node closed at place i
-module _ {n : ℕ} {steps ws : List ℕ} {i : ℕ} (turn : Visitable n steps ws i) where
+-- the node closed at place i; its place is what the search for the step answers
+module _ {n gap : ℕ} {steps ws : List ℕ} {i : ℕ} (turn : Visitable n gap steps ws i) where
   abbrev k : ℕ
   k = closed-of n ws i
 
-  part-size : length (part n ws) ≡ n
-  part-size = mid-len (2 * n) (3 * n) ws (omega (arith, turn .ws-size)) ∙ omega arith
-
-  part-read : (x : ℕ) → x < n → getD (part n ws) x 0 ≡ word-at n ws x
-  part-read x b = getD-take (3 * n - 2 * n) (drop (2 * n) ws) x 0 (omega arith) ∙ getD-drop (2 * n) ws x 0
-
-  -- the place is what the search for the step answers
   module _ {place : ℕ} (found : place ≡ place-at n steps ws k) where
-    pub visit-ready : Settleable (length steps) place (drop-of n ws i) k (up-of n ws k) (part n ws)
-    visit-ready = record {
-      few = turn .few;
-      node = rw part-size (turn .number);
-      above = rw part-size (turn .up);
-      byte = rw (found, part-read (up-of n ws k) (turn .up)) (turn .byte);
+    pub visit-ready : place < length steps → Settleable gap place (drop-of n ws i) n k (up-of n ws k) ws
+    visit-ready l = record {
+      few = omega (arith, turn .few);
+      narrow = turn .narrow;
+      ws-size = turn .ws-size;
+      node = turn .number;
+      above = turn .up;
+      byte = turn .byte (rw (← found) l);
     }
 
-    pub visit-stores : {held : List ℕ} → held ≡ settled-at (length steps) place (drop-of n ws i) k (up-of n ws k) (part n ws)
-        → putMid (2 * n) (3 * n - 2 * n) ws held ≡ visited-at n steps ws i
+    pub visit-never : {left : List ℕ} → length steps ≤ place → left ≡ stored n k never 0 ws → left ≡ visited-at n gap steps ws i
+    visit-never l is =
+        let past : length steps ≤ place-at n steps ws k = rw (← found) l in
+        is ∙ rw (run-never _ _ _ _ _ past, pair-never _ _ _ _ _ _ past) refl
+
+    pub visit-settles : {left : List ℕ} → place < length steps → left ≡ settled-at gap place (drop-of n ws i) n k (up-of n ws k) ws
+        → left ≡ visited-at n gap steps ws i
     unfolding settled-at
-    visit-stores is =
-        ap (putMid (2 * n) (3 * n - 2 * n) ws) is
-        ∙ set-mid-at (2 * n) (3 * n - 2 * n) k ws _ (rw part-size (turn .number))
-        ∙ rw (found, part-read (up-of n ws k) (turn .up)) refl
+    visit-settles l is =
+        let falls : place-at n steps ws k < length steps = rw (← found) l in
+        is ∙ rw (run-falls _ _ _ _ _ falls, pair-falls _ _ _ _ _ _ falls, found) refl
 
 -- a turn keeps the other words
-kept-stored : {n : ℕ} {ws ws' : List ℕ} → Kept n ws ws' → (k v : ℕ) → k < n → Kept n ws (set ws' (2 * n + k) v)
-kept-stored {n} {ws' = ws'} kept k v b = record {
-  words = length-set ws' (2 * n + k) v ∙ kept .words;
-  front = λ x l. getD-set-other ws' (2 * n + k) x v 0 (λ e. omega arith) ∙ kept .front x l;
-  back = λ x l. getD-set-other ws' (2 * n + k) x v 0 (λ e. omega arith) ∙ kept .back x l;
-}
-
-stored-word : {n : ℕ} (ws : List ℕ) (k v : ℕ) → 2 * n + k < length ws → Changed n (word-at n ws) (word-at n (set ws (2 * n + k) v)) k v
-stored-word {n} ws k v b = record {
-  here = getD-set-same ws (2 * n + k) v 0 b;
-  there = λ x l off. getD-set-other ws (2 * n + k) (2 * n + x) v 0 (λ e. off (omega arith));
+kept-stored : (n : ℕ) (ws ws' : List ℕ) → Kept n ws ws' → (k run pair : ℕ) → k < n → Kept n ws (stored n k run pair ws')
+kept-stored n ws ws' kept k run pair b = record {
+  words = stored-length n ws' k run pair ∙ kept .words;
+  front = λ x l. stored-other n ws' k run pair x (λ e. omega arith) (λ e. omega arith) ∙ kept .front x l;
+  middle = λ x l h. stored-other n ws' k run pair x (λ e. omega arith) (λ e. omega arith) ∙ kept .middle x l h;
 }
 
 -- at the start no node is settled
-pub visit-start : {n nodes : ℕ} {steps ws : List ℕ} → Settled-from n nodes steps ws ws nodes
+pub visit-start : {n nodes gap : ℕ} {steps ws : List ℕ} → Settled-from n nodes gap steps ws ws nodes
 visit-start = record {
-  kept = record { words = refl; front = λ x l. refl; back = λ x l. refl };
+  kept = record { words = refl; front = λ x l. refl; middle = λ x l h. refl };
   done = λ level climb j late l. absurd (omega arith);
 }
 
 -- the turn before place h, after those from h on
-module _ {n nodes : ℕ} {steps ws ws' : List ℕ} {h : ℕ} (given : Given n nodes steps ws) (some : 0 < h) (most : h ≤ nodes)
-    (prog : Settled-from n nodes steps ws ws' h) where
+module _ {n nodes gap : ℕ} {steps ws ws' : List ℕ} {h : ℕ} (given : Given n nodes gap steps ws) (some : 0 < h) (most : h ≤ nodes)
+    (prog : Settled-from n nodes gap steps ws ws' h) where
   abbrev i : ℕ
   i = h - 1
 
@@ -82,7 +70,7 @@ module _ {n nodes : ℕ} {steps ws ws' : List ℕ} {h : ℕ} (given : Given n no
   b = omega arith
 
   done-later : (level : ℕ → ℕ) → Climbable n nodes level ws → (j : ℕ) → i < j → j < nodes
-      → Settled (length steps) (place-at n steps ws) level (up-of n ws) (word-at n ws') (closed-of n ws j)
+      → Settled (length steps) gap (place-at n steps ws) level (up-of n ws) (run-at n ws') (pair-at n ws') (closed-of n ws j)
   done-later level climb j late l = prog .done level climb j (omega arith) l
 
   never-root : (k : ℕ) → up-of n ws k ≡ k → length steps ≤ place-at n steps ws k
@@ -97,41 +85,53 @@ module _ {n nodes : ℕ} {steps ws ws' : List ℕ} {h : ℕ} (given : Given n no
   node-small : node < n
   node-small = omega (arith, node-within, given .climb .few)
 
+  size : length ws' ≡ words-a-pixel * n
+  size = prog .kept .words ∙ given .ws-size
+
   -- it asks of the words now what it asks of those at the start
-  pub visit-asked : Visitable n steps ws' i
+  pub visit-asked : Visitable n gap steps ws' i
   visit-asked = record {
     few = given .few;
     rise = given .rise;
-    ws-size = prog .kept .words ∙ given .ws-size;
+    narrow = given .narrow;
+    ws-size = size;
     place = inside;
     number = rw (kept-closed (prog .kept) i inside) node-small;
     up =
         rw
-        (kept-closed (prog .kept) i inside, kept-up (prog .kept) node)
+        (kept-closed (prog .kept) i inside, kept-up (prog .kept) node node-small)
         (omega (arith, given .climb .ups node node-within, given .climb .few));
     byte =
         rw (
           kept-closed (prog .kept) i inside,
           kept-drop (prog .kept) i inside,
-          kept-up (prog .kept) node,
-          kept-held (prog .kept) node,
+          kept-up (prog .kept) node node-small,
+          kept-held (prog .kept) node node-small,
           turn-drop (given .climb) (given .few) never-root b (done-later (given .level) (given .climb)),
         )
         (turn-byte (given .climb) (given .few) never-root b (done-later (given .level) (given .climb)));
   }
 
-  pub visit-more : {ws'' : List ℕ} → ws'' ≡ visited-at n steps ws' i → Settled-from n nodes steps ws ws'' i
+  pub visit-more : {ws'' : List ℕ} → ws'' ≡ visited-at n gap steps ws' i → Settled-from n nodes gap steps ws ws'' i
   visit-more {ws''} is =
       let k = prog .kept in
+      let m : ℕ = length steps in
+      let place : ℕ = place-at n steps ws node in
+      let up : ℕ = up-of n ws node in
       let now : ws''
-      ≡ set ws' (2 * n + node)
-      (word-of (length steps) (place-at n steps ws node) (drop-of n ws i) (word-at n ws' (up-of n ws node))) =
-      is ∙ rw (kept-closed k i inside, kept-drop k i inside, kept-up k node, kept-held k node) refl in
+      ≡ stored
+      n
+      node
+      (run-word m gap place (drop-of n ws i) (run-at n ws' up))
+      (pair-word m gap place (drop-of n ws i) (run-at n ws' up) (pair-at n ws' up))
+      ws' =
+      is ∙ rw (kept-closed k i inside, kept-drop k i inside, kept-up k node node-small, kept-held k node node-small) refl in
       rw now (record {
-        kept = kept-stored k node _ node-small;
+        kept = kept-stored n ws ws' k node _ _ node-small;
         done = λ level climb.
             let done = done-later level climb in
+            let drop = turn-drop climb (given .few) never-root b done in
             turn-settles climb (given .few) never-root b done
-            (rw (← turn-drop climb (given .few) never-root b done)
-            (stored-word ws' node _ (omega (arith, prog .kept .words, given .ws-size, node-small))));
+            (rw (← drop) (stored-run n ws' node _ _ size node-small))
+            (rw (← drop) (stored-pair n ws' node _ _ size node-small));
       })

@@ -1,20 +1,20 @@
 -- The two passes, on the words that they are lent: the words of the nodes, of which there are as many as `nodes` says, and the numbers of
--- the pixels' nodes, which they leave as they are. What the nodes hold stands by number in the third part.
-use Prim.Native.Nat.{ℕ, _+_, _-_, _*_, _%_, _≤_, _<_}
+-- the pixels' nodes, which they leave as they are. What the nodes hold stands by number in the third part and the last.
+use Prim.Native.Nat.{ℕ, _+_, _-_, _*_, _≤_, _<_}
 use mathlib.Core.Bool.{true}
 use mathlib.Core.List.{List}
 use mathlib.Core.Path.{_≡_}
-use lib.ListN.{length, getD, set}
+use lib.ListN.{length, getD}
 use Rattle.opening.specs.Residue.{rising}
 use Rattle.grid.specs.Pixels.{pixels}
 use Rattle.grid.specs.declared.Grid.{Grid}
-use Rattle.causes.specs.Bounds.{most-pixels, words-a-pixel, most-steps}
+use Rattle.causes.specs.Bounds.{most-pixels, words-a-pixel, most-steps, most-gap}
 use Rattle.calls.specs.Calls.{residue-map, index-map}
 use Rattle.levels.specs.Workspace.{number-at, closed-of, drop-of, up-of, held-of}
 use Rattle.flooding.specs.Numbers.{Drops, Closing-order}
 use Rattle.numbers.specs.Nodes.{NodesOf}
 use Rattle.places.specs.Places.{place-of}
-use Rattle.map_passes.specs.Settle.{run-in, pair-in, run-of, pair-of, word-of}
+use Rattle.map_passes.specs.Settle.{total-in, own-in, run-word, pair-word, run-at, pair-at, stored}
 
 -- numbers that a climb can go by: each pixel's node has one, and each node's parent, which lies below it by the node's drop
 pub record Climbing (n nodes : ℕ) (num level up closed drop : ℕ → ℕ) : Type 0 where
@@ -30,80 +30,86 @@ abbrev pub Climbable : ℕ → ℕ → (ℕ → ℕ) → List ℕ → Type 0
 Climbable n nodes level ws = Climbing n nodes (number-at ws) level (up-of n ws) (closed-of n ws) (drop-of n ws)
 
 -- what both passes are given; the levels of the nodes are not stored
-pub record Given (n nodes : ℕ) (steps ws : List ℕ) : Type 0 where
+pub record Given (n nodes gap : ℕ) (steps ws : List ℕ) : Type 0 where
   pub few : length steps ≤ most-steps
   pub rise : rising 0 steps ≡ true
+  pub narrow : gap ≤ most-gap
   pub ws-size : length ws ≡ words-a-pixel * n
   pub level : ℕ → ℕ
   pub climb : Climbable n nodes level ws
 
--- the word that the node of number k holds
-abbrev pub word-at : ℕ → List ℕ → ℕ → ℕ
-word-at n ws k = getD ws (2 * n + k) 0
-
--- the place of the step at which it falls
+-- the place of the step at which the node of number k falls
 abbrev pub place-at : ℕ → List ℕ → List ℕ → ℕ → ℕ
 place-at n steps ws k = place-of steps k (up-of n ws k) (held-of n ws k)
 
 -- what settling the node closed at place i needs
-pub record Visitable (n : ℕ) (steps ws : List ℕ) (i : ℕ) : Type 0 where
+pub record Visitable (n gap : ℕ) (steps ws : List ℕ) (i : ℕ) : Type 0 where
   pub few : length steps ≤ most-steps
   pub rise : rising 0 steps ≡ true
+  pub narrow : gap ≤ most-gap
   pub ws-size : length ws ≡ words-a-pixel * n
   pub place : i < n
   pub number : closed-of n ws i < n
   pub up : up-of n ws (closed-of n ws i) < n
   pub byte :
       place-at n steps ws (closed-of n ws i) < length steps
-      → drop-of n ws i + run-in (word-at n ws (up-of n ws (closed-of n ws i))) % 256 < 256
+      → drop-of n ws i + total-in (own-in (run-at n ws (up-of n ws (closed-of n ws i)))) < 256
 
 -- the words after it is settled
-abbrev pub visited-at : ℕ → List ℕ → List ℕ → ℕ → List ℕ
-visited-at n steps ws i =
+abbrev pub visited-at : ℕ → ℕ → List ℕ → List ℕ → ℕ → List ℕ
+visited-at n gap steps ws i =
     let k = closed-of n ws i in
-    set ws (2 * n + k) (word-of (length steps) (place-at n steps ws k) (drop-of n ws i) (word-at n ws (up-of n ws k)))
+    let above = up-of n ws k in
+    stored
+    n
+    k
+    (run-word (length steps) gap (place-at n steps ws k) (drop-of n ws i) (run-at n ws above))
+    (pair-word (length steps) gap (place-at n steps ws k) (drop-of n ws i) (run-at n ws above) (pair-at n ws above))
+    ws
 
--- the node of number k, which falls at its place among m steps, is settled: it holds what follows from what its parent holds
-pub record Settled (m : ℕ) (place level up word : ℕ → ℕ) (k : ℕ) : Type 0 where
-  pub run : run-in (word k) ≡ run-of m (place k) (level k - level (up k)) (run-in (word (up k)))
-  pub pair :
-      pair-in (word k) ≡ pair-of m (place k) (level k - level (up k)) (run-in (word (up k))) (pair-in (word (up k)))
-  pub low-run : run-in (word k) % 256 ≤ level k
+-- the node of number k, which falls at its place among m steps, is settled: it holds what follows from what its parent holds. The total of
+-- its run is at most its level, and its pair has 16 bits.
+pub record Settled (m gap : ℕ) (place level up run pair : ℕ → ℕ) (k : ℕ) : Type 0 where
+  pub runs : run k ≡ run-word m gap (place k) (level k - level (up k)) (run (up k))
+  pub pairs : pair k ≡ pair-word m gap (place k) (level k - level (up k)) (run (up k)) (pair (up k))
+  pub low : total-in (own-in (run k)) ≤ level k
+  pub fits : pair k < 65536
 
--- the words outside the third part are as they were
+-- the words outside the third part and the last are as they were
 pub record Kept (n : ℕ) (ws ws' : List ℕ) : Type 0 where
   pub words : length ws' ≡ length ws
   pub front : (x : ℕ) → x < 2 * n → getD ws' x 0 ≡ getD ws x 0
-  pub back : (x : ℕ) → 3 * n ≤ x → getD ws' x 0 ≡ getD ws x 0
+  pub middle : (x : ℕ) → 3 * n ≤ x → x < 6 * n → getD ws' x 0 ≡ getD ws x 0
 
 -- the nodes from place i of the order of closing on are settled, whichever levels have these drops, and the words by which the pass goes
 -- are as they were
-pub record Settled-from (n nodes : ℕ) (steps ws ws' : List ℕ) (i : ℕ) : Type 0 where
+pub record Settled-from (n nodes gap : ℕ) (steps ws ws' : List ℕ) (i : ℕ) : Type 0 where
   pub kept : Kept n ws ws'
   pub done :
       (level : ℕ → ℕ) → Climbable n nodes level ws → (j : ℕ) → i ≤ j → j < nodes
-      → Settled (length steps) (place-at n steps ws) level (up-of n ws) (word-at n ws') (closed-of n ws j)
+      → Settled (length steps) gap (place-at n steps ws) level (up-of n ws) (run-at n ws') (pair-at n ws') (closed-of n ws j)
 
 -- the pair of the node of q
-abbrev pub pair-at : ℕ → List ℕ → ℕ → ℕ
-pair-at n ws q = pair-in (word-at n ws (number-at ws q))
+abbrev pub pair-for : ℕ → List ℕ → ℕ → ℕ
+pair-for n ws q = pair-at n ws (number-at ws q)
 
--- what the pass over the pixels needs: each pixel's node has a number
+-- what the pass over the pixels needs: each pixel's node has a number, and its pair 16 bits
 pub record Spreadable (n : ℕ) (ws : List ℕ) (residues indices : ℕ) : Type 0 where
   pub ws-size : length ws ≡ words-a-pixel * n
   pub residues-size : residues ≡ n
   pub indices-size : indices ≡ n
   pub within : (q : ℕ) → q < n → number-at ws q < n
+  pub fits : (q : ℕ) → q < n → pair-for n ws q < 65536
 
 -- what both passes are lent
-pub record Ready (picture steps : List ℕ) (nodes : ℕ) (ws residues indices : List ℕ) : Type 0 where
-  pub given : Given (length picture) nodes steps ws
+pub record Ready (picture steps : List ℕ) (gap nodes : ℕ) (ws residues indices : List ℕ) : Type 0 where
+  pub given : Given (length picture) nodes gap steps ws
   pub residues-size : length residues ≡ length picture
   pub indices-size : length indices ≡ length picture
 
 -- what they write, where the words are those of the nodes of a picture on any grid under any of the attributes
-pub record Written (picture steps : List ℕ) (nodes : ℕ) (ws ws' residues indices : List ℕ) : Type 0 where
+pub record Written (picture steps : List ℕ) (gap nodes : ℕ) (ws ws' residues indices : List ℕ) : Type 0 where
   pub kept : Kept (length picture) ws ws'
   pub maps :
       (grid : Grid) (a : ℕ) → 1 ≤ grid .width → pixels grid ≤ most-pixels → length picture ≡ pixels grid → NodesOf grid a picture ws nodes
-      → (residues ≡ residue-map grid a steps picture) × (indices ≡ index-map grid a steps picture)
+      → (residues ≡ residue-map grid a steps gap picture) × (indices ≡ index-map grid a steps gap picture)

@@ -1,53 +1,89 @@
--- What the pass over the nodes computes for one node from what its parent holds. A node holds one word, its run and its pair in 16 bits
--- each. Its run is the place of the step at which it falls, times 256, and the node's running fall: its residue at that step; it is 0 for a
--- node that never falls. Its pair is the place of the step of its largest residue, times 256, and that residue; it is 0 where the residue
--- is 0. So a pair modulo 256 is the residue, and over 256, rounded up, it is the index, counted from 1.
+-- What the pass over the nodes computes for one node from what its parent holds. A pair stands for a run of residues: the place at which the run
+-- ends, times 256, and its total. So a pair modulo 256 is the total, and over 256, rounded up, it is the index, counted from 1, or 0 where no
+-- residue is. A node holds two words. Its run word is the place of the step at which the node falls, times 65,536, and the pair of the run of its
+-- own fall; the place is 512, beyond every step and gap, for a node that never falls. Its pair is that of the run of its largest total, 0 where
+-- the total is 0.
 use Prim.Native.Nat.{ℕ, _+_, _*_, _/_, _%_, _≤_, _<_}
-use mathlib.Core.Bool.{cond}
+use mathlib.Core.Bool.{Bool, cond}
 use mathlib.Core.List.{List}
-use lib.Dec.{eqb, ltb}
+use mathlib.Core.Path.{_≡_}
+use lib.Dec.{leb, ltb}
 use lib.ListN.{length, getD, set}
-use Rattle.causes.specs.Bounds.{most-steps}
+use Rattle.causes.specs.Bounds.{words-a-pixel, most-steps, most-gap}
 
--- the run and the pair of a node, from its word
-abbrev pub run-in : ℕ → ℕ
-run-in word = word / 65536
+-- what a pair holds
+abbrev pub end-in : ℕ → ℕ
+end-in pair = pair / 256
 
-abbrev pub pair-in : ℕ → ℕ
-pair-in word = word % 65536
+abbrev pub total-in : ℕ → ℕ
+total-in pair = pair % 256
 
--- the index that a pair holds
 abbrev pub index-in : ℕ → ℕ
 index-in pair = (pair + 255) / 256
 
--- the running fall that a run holds, if its node falls at the step k
-unfoldable pub shared-fall : ℕ → ℕ → ℕ
-shared-fall run k = cond (eqb (run / 256) k) (run % 256) 0
+-- what a run word holds
+abbrev pub place-in : ℕ → ℕ
+place-in run = run / 65536
 
--- the running fall of a node that falls at the step k: the fall from its parent, and the parent's running fall if that falls at the same step
-unfoldable pub fall-of : ℕ → ℕ → ℕ → ℕ
-fall-of k fall run = fall + shared-fall run k
+abbrev pub own-in : ℕ → ℕ
+own-in run = run % 65536
 
--- the run of a node that falls at place k of m steps, from its parent's
+-- the run word of a node that never falls
+abbrev pub never : ℕ
+never = 33554432
+
+-- whether a node that falls at place k shares its parent's run: the parent falls at most the gap later
+unfoldable pub near : ℕ → ℕ → ℕ → Bool
+near gap k run = leb (place-in run) (k + gap)
+
+-- the pair of its run before its own fall: the parent's if they share it, else a run that ends at its own place
+unfoldable pub shared-pair : ℕ → ℕ → ℕ → ℕ
+shared-pair gap k run = cond (near gap k run) (own-in run) (k * 256)
+
+-- the pair of its run: with the fall from its parent
+unfoldable pub own-of : ℕ → ℕ → ℕ → ℕ → ℕ
+own-of gap k fall run = shared-pair gap k run + fall
+
+-- its run word, and its pair: its own run's, if the total is more than the parent's largest, else the parent's
 unfoldable pub run-of : ℕ → ℕ → ℕ → ℕ → ℕ
-run-of m k fall run = cond (ltb k m) (k * 256 + fall-of k fall run) 0
+run-of gap k fall run = k * 65536 + own-of gap k fall run
 
--- its pair: its run, if the running fall is more than the parent's largest residue, else the parent's pair
 unfoldable pub pair-of : ℕ → ℕ → ℕ → ℕ → ℕ → ℕ
-pair-of m k fall run pair =
-    cond (ltb k m) (cond (ltb (pair % 256) (fall-of k fall run)) (k * 256 + fall-of k fall run) pair) 0
+pair-of gap k fall run pair = cond (ltb (total-in pair) (total-in (own-of gap k fall run))) (own-of gap k fall run) pair
 
--- its word, from its parent's
-abbrev pub word-of : ℕ → ℕ → ℕ → ℕ → ℕ
-word-of m k fall word = run-of m k fall (run-in word) * 65536 + pair-of m k fall (run-in word) (pair-in word)
+-- the same for any node of m steps: it falls at place k, or never
+unfoldable pub run-word : ℕ → ℕ → ℕ → ℕ → ℕ → ℕ
+run-word m gap k fall run = cond (ltb k m) (run-of gap k fall run) never
 
--- what a node of number k needs that falls at a place among m steps: the running fall is a byte
-pub record Settleable (m place fall k up : ℕ) (held : List ℕ) : Type 0 where
-  pub few : m ≤ most-steps
-  pub node : k < length held
-  pub above : up < length held
-  pub byte : place < m → fall + run-in (getD held up 0) % 256 < 256
+unfoldable pub pair-word : ℕ → ℕ → ℕ → ℕ → ℕ → ℕ → ℕ
+pair-word m gap k fall run pair = cond (ltb k m) (pair-of gap k fall run pair) 0
 
--- what the nodes hold after it is settled, from what its parent holds, of number up
-unfoldable pub settled-at : ℕ → ℕ → ℕ → ℕ → ℕ → List ℕ → List ℕ
-settled-at m place fall k up held = set held k (word-of m place fall (getD held up 0))
+-- the words of the node of number k, of n pixels: its run word in the third part, its pair in the last
+abbrev pub run-at : ℕ → List ℕ → ℕ → ℕ
+run-at n ws k = getD ws (2 * n + k) 0
+
+abbrev pub pair-at : ℕ → List ℕ → ℕ → ℕ
+pair-at n ws k = getD ws (6 * n + k) 0
+
+-- the words after both are stored
+unfoldable pub stored : ℕ → ℕ → ℕ → ℕ → List ℕ → List ℕ
+stored n k run pair ws = set (set ws (2 * n + k) run) (6 * n + k) pair
+
+-- the parts have room for them
+pub record Storable (n k : ℕ) (ws : List ℕ) : Type 0 where
+  pub ws-size : length ws ≡ words-a-pixel * n
+  pub node : k < n
+
+-- what a node of number k needs that falls at a place, `fall` above its parent, of number up: the total of its run is a byte
+pub record Settleable (gap place fall n k up : ℕ) (ws : List ℕ) : Type 0 where
+  pub few : place < most-steps
+  pub narrow : gap ≤ most-gap
+  pub ws-size : length ws ≡ words-a-pixel * n
+  pub node : k < n
+  pub above : up < n
+  pub byte : fall + total-in (own-in (run-at n ws up)) < 256
+
+-- the words after it is settled
+unfoldable pub settled-at : ℕ → ℕ → ℕ → ℕ → ℕ → ℕ → List ℕ → List ℕ
+settled-at gap place fall n k up ws =
+    stored n k (run-of gap place fall (run-at n ws up)) (pair-of gap place fall (run-at n ws up) (pair-at n ws up)) ws

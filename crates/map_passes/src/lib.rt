@@ -1,55 +1,68 @@
 // The two passes over the nodes of a picture that give its maps: one over the nodes, from the last closed to the first and so from
-// parents to children, which settles each node from its parent, then one over the pixels, which alone writes the maps. What a node holds
-// stands in one word by its number, in part 3: run × 65536 + pair. The run is place × 256 + running fall, 0 for a node that never falls;
-// the pair is (index − 1) × 256 + largest residue, 0 where that is 0. As there are at most 256 steps, both fit 16 bits. The time grows with
-// the number of steps only by the search for the steps at which nodes fall.
+// parents to children, which settles each node from its parent, then one over the pixels, which alone writes the maps. A pair stands for a
+// run of residues: end × 256 + total, where end is the place of its last residue. What a node holds stands in two words by its number: in
+// part 3 its run word, place × 65536 + the pair of the run of its own fall; in part 7 the pair of the run of largest total, 0 where no residue
+// is. As there are at most 256 steps and greys, a pair has 16 bits; a node that never falls has 512 for its place, beyond every step and gap.
+// The time grows with the number of steps only by the search for the steps at which nodes fall, and not with the gap.
 ghost use mathlib.Core.Path.{_≡_};
 ghost use mathlib.Core.Bool.{cond};
-ghost use Prim.Native.Nat.{ℕ, _%_};
+ghost use Prim.Native.Nat.{ℕ, _≤_, _<_};
 ghost use lib.Dec.{ltb};
 ghost use lib.ListN.{length};
 ghost use Rattle.sets.specs.Sets.{table};
 ghost use Rattle.places.specs.Places.{small-places};
-ghost use Rattle.map_passes.specs.Settle.{shared-fall, index-in, Settleable, settled-at};
-ghost use Rattle.map_passes.specs.Passes.{Given, Settled-from, Visitable, visited-at, pair-at, Spreadable, Ready, Written};
+ghost use Rattle.causes.specs.Bounds.{most-steps, most-gap};
+ghost use Rattle.map_passes.specs.Settle.{total-in, index-in, shared-pair, Storable, stored, Settleable, settled-at};
+ghost use Rattle.map_passes.specs.Passes.{Given, Settled-from, Visitable, visited-at, pair-for, Spreadable, Ready, Written};
 
-// The running fall of a node, from its run, if it falls at the step k.
-fn shared(run: u32, k: u32) -> u32
-    ensures { λ r. ⌜ r ≡ shared-fall run k ⌝ }
-{
-    if run / 256 == k { run % 256 } else { 0 }
-}
+// The run word of a node that never falls.
+const NEVER: u32 = 33554432;
 
-// The pair of a node: its run if its fall is more than the largest residue of its parent's pair, else that pair. Both are at hand.
-fn better(fall: u32, run: u32, pair: u32) -> u32
-    ensures { λ r. ⌜ r ≡ cond (ltb (pair % 256) fall) run pair ⌝ }
+// The pair of the run of a node that falls at `place`, before its own fall: its parent's, from the parent's run word, if the parent falls at
+// most the gap later, else a run that ends at its own place.
+fn shared(gap: u32, place: u32, run: u32) -> u32
+    requires { ⌜ (gap ≤ most-gap) × (place < most-steps) ⌝ }
+    ensures { λ r. ⌜ r ≡ shared-pair gap place run ⌝ }
 {
-    if pair % 256 < fall { run } else { pair }
-}
-
-// Settles the node of number k, which falls at `place` of `count` steps and lies `down` above its parent, of number `up`, which is settled:
-// stores its word. The fall from its parent merges into the parent's running fall if both fall at the same step, and wins only if it is
-// more than the parent's largest residue.
-fn settle(count: usize, place: usize, down: u32, k: usize, up: usize, held: &mut [u32])
-    requires { ⌜ Settleable count place down k up (now held) ⌝ }
-    ensures { λ _. ⌜ now (held .exit) ≡ settled-at count place down k up (now (held .entry)) ⌝ }
-{
-    if count <= place {
-        held[k] = 0;
-        return;
+    if run / 65536 <= place + gap {
+        run % 65536
+    } else {
+        place * 256
     }
-    let above = held[up];
-    let fall = down + shared(above / 65536, place as u32);
-    let run = (place as u32) * 256 + fall;
-    let pair = better(fall, run, above % 65536);
-    held[k] = run * 65536 + pair;
 }
 
-// Settles the node at place i of the order of closing. Part 3 is lent on.
-fn visit(steps: &[u32], table: &[usize; 256], n: usize, i: usize, ws: &mut [u32])
-    requires { ⌜ Visitable n (now steps) (now ws) i ⌝ }
+// The pair of a node: its own run's if the total is more than the largest of its parent's pair, else that pair. Both are at hand.
+fn better(own: u32, pair: u32) -> u32
+    ensures { λ r. ⌜ r ≡ cond (ltb (total-in pair) (total-in own)) own pair ⌝ }
+{
+    if pair % 256 < own % 256 { own } else { pair }
+}
+
+// Stores the two words of the node of number k.
+fn store(n: usize, k: usize, run: u32, pair: u32, ws: &mut [u32])
+    requires { ⌜ Storable n k (now ws) ⌝ }
+    ensures { λ _. ⌜ now (ws .exit) ≡ stored n k run pair (now (ws .entry)) ⌝ }
+{
+    ws[2 * n + k] = run;
+    ws[6 * n + k] = pair;
+}
+
+// Settles the node of number k, which falls at `place` and lies `down` above its parent, of number `up`, which is settled. The fall from its
+// parent joins the parent's run if that falls at most the gap later, and the run wins only if its total is more than the parent's largest.
+fn settle(gap: u32, place: u32, down: u32, n: usize, k: usize, up: usize, ws: &mut [u32])
+    requires { ⌜ Settleable gap place down n k up (now ws) ⌝ }
+    ensures { λ _. ⌜ now (ws .exit) ≡ settled-at gap place down n k up (now (ws .entry)) ⌝ }
+{
+    let own = shared(gap, place, ws[2 * n + up]) + down;
+    let pair = better(own, ws[6 * n + up]);
+    store(n, k, place * 65536 + own, pair, ws);
+}
+
+// Settles the node at place i of the order of closing.
+fn visit(steps: &[u32], table: &[usize; 256], gap: u32, n: usize, i: usize, ws: &mut [u32])
+    requires { ⌜ Visitable n gap (now steps) (now ws) i ⌝ }
     requires { ⌜ now table ≡ small-places (now steps) ⌝ }
-    ensures { λ _. ⌜ now (ws .exit) ≡ visited-at n (now (steps .entry)) (now (ws .entry)) i ⌝ }
+    ensures { λ _. ⌜ now (ws .exit) ≡ visited-at n gap (now (steps .entry)) (now (ws .entry)) i ⌝ }
 {
     let word = ws[n + i];
     let k = (word / 256) as usize;
@@ -57,53 +70,65 @@ fn visit(steps: &[u32], table: &[usize; 256], n: usize, i: usize, ws: &mut [u32]
     let up = ws[3 * n + 3 * k + 1] as usize;
     let a = ws[3 * n + 3 * k + 2];
     let place = places::place(steps, table, k, up, a);
-    settle(steps.len(), place, down, k, up, &mut ws[2 * n..3 * n]);
+    if steps.len() <= place {
+        store(n, k, NEVER, 0, ws);
+        return;
+    }
+    settle(gap, place as u32, down, n, k, up, ws);
 }
 
 // Every node, the last closed first.
-fn settle_nodes(steps: &[u32], table: &[usize; 256], n: usize, nodes: usize, ws: &mut [u32])
-    requires { ⌜ Given n nodes (now steps) (now ws) ⌝ }
+fn settle_nodes(
+    steps: &[u32],
+    table: &[usize; 256],
+    gap: u32,
+    n: usize,
+    nodes: usize,
+    ws: &mut [u32],
+)
+    requires { ⌜ Given n nodes gap (now steps) (now ws) ⌝ }
     requires { ⌜ now table ≡ small-places (now steps) ⌝ }
-    ensures { λ _. ⌜ Settled-from n nodes (now (steps .entry)) (now (ws .entry)) (now (ws .exit)) 0 ⌝ }
+    ensures { λ _. ⌜ Settled-from n nodes gap (now (steps .entry)) (now (ws .entry)) (now (ws .exit)) 0 ⌝ }
 {
     let mut i = nodes;
     while i > 0 {
         i -= 1;
-        visit(steps, table, n, i, ws);
+        visit(steps, table, gap, n, i, ws);
     }
 }
 
 // Every pixel takes both entries from the pair of its node. Rounded up, the pair over 256 is the index, 0 for no residue.
 fn spread(n: usize, ws: &[u32], residues: &mut [u8], indices: &mut [u16])
     requires { ⌜ Spreadable n (now ws) (length (now residues)) (length (now indices)) ⌝ }
-    ensures residues { λ _. ⌜ now (residues .exit) ≡ table n (λ (q : ℕ). pair-at n (now (ws .entry)) q % 256) ⌝ }
-    ensures indices { λ _. ⌜ now (indices .exit) ≡ table n (λ (q : ℕ). index-in (pair-at n (now (ws .entry)) q)) ⌝ }
+    ensures residues { λ _. ⌜ now (residues .exit) ≡ table n (λ (q : ℕ). total-in (pair-for n (now (ws .entry)) q)) ⌝ }
+    ensures indices { λ _. ⌜ now (indices .exit) ≡ table n (λ (q : ℕ). index-in (pair-for n (now (ws .entry)) q)) ⌝ }
 {
     let mut p: usize = 0;
     while p < n {
         let k = ws[p] as usize;
-        let pair = ws[2 * n + k] % 65536;
+        let pair = ws[6 * n + k];
         residues[p] = (pair % 256) as u8;
         indices[p] = ((pair + 255) / 256) as u16;
         p += 1;
     }
 }
 
-// Both maps, from the words of the nodes. Part 3 is free for the pass over them.
+// Both maps, from the words of the nodes. Parts 3 and 7 are free for the pass over them.
 pub fn write_maps(
     picture: &[u8],
     steps: &[u32],
+    gap: u32,
     nodes: usize,
     ws: &mut [u32],
     residues: &mut [u8],
     indices: &mut [u16],
 )
-    requires { ⌜ Ready (now picture) (now steps) nodes (now ws) (now residues) (now indices) ⌝ }
-    ensures { λ _. ⌜ Written (now (picture .entry)) (now (steps .entry)) nodes
+    requires { ⌜ Ready (now picture) (now steps) gap nodes (now ws) (now residues) (now indices) ⌝ }
+    ensures { λ _. ⌜ Written (now (picture .entry)) (now (steps .entry)) gap nodes
         (now (ws .entry)) (now (ws .exit)) (now (residues .exit)) (now (indices .exit)) ⌝ }
 {
     let n = picture.len();
     let table = places::small_places(steps);
-    settle_nodes(steps, &table, n, nodes, ws);
+    settle_nodes(steps, &table, gap, n, nodes, ws);
     spread(n, ws, residues, indices);
 }

@@ -47,7 +47,7 @@ module _ (call : Map-call) {verdict : Verdict} (judged : verdict ≡ map-verdict
 
     -- after the words of the nodes are built
     module _ {ws : List ℕ} {nodes : ℕ} (built : Noded (call .grid) (call .attribute) (call .picture) ws nodes) where
-      pub passes-ask : ((q : ℕ) → grey (call .picture) q < 256) → Ready (call .picture) (call .steps) nodes ws (call .residue) (call .index)
+      pub passes-ask : ((q : ℕ) → grey (call .picture) q < 256) → Ready (call .picture) (call .steps) (call .gap) nodes ws (call .residue) (call .index)
       passes-ask bytes =
           let list : Step-list (call .steps) = step-list (call .steps) (passed .steps) in
           record {
@@ -55,6 +55,7 @@ module _ (call : Map-call) {verdict : Verdict} (judged : verdict ≡ map-verdict
                 record {
                   few = list .not-more;
                   rise = list .rises;
+                  narrow = passed .gap;
                   ws-size = built .buildable .words ∙ ap (λ (n : ℕ). words-a-pixel * n) (sym (common .a-byte-each));
                   level = _;
                   climb = nodes-climbable (built .nodes) bytes;
@@ -64,7 +65,7 @@ module _ (call : Map-call) {verdict : Verdict} (judged : verdict ≡ map-verdict
           }
 
       -- and the maps are written
-      module _ {ws₁ residue index : List ℕ} (written : Written (call .picture) (call .steps) nodes ws ws₁ residue index) where
+      module _ {ws₁ residue index : List ℕ} (written : Written (call .picture) (call .steps) (call .gap) nodes ws ws₁ residue index) where
         noded : Noded (call .grid) (call .attribute) (call .picture) ws₁ nodes
         noded =
             record {

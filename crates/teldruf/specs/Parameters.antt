@@ -10,6 +10,6 @@ abbrev pub open-by : {E F G : Type 0} → Lent E → ℕ → ℕ → ℕ → ℕ
 open-by picture width height attribute neighbours threshold workspace output =
     open-call picture (grid-of width height neighbours) attribute threshold workspace output
 
-abbrev pub map-by : {E F G H I : Type 0} → Lent E → ℕ → ℕ → ℕ → ℕ → Lent F → Lent G → Lent H → Lent I → Map-call
-map-by picture width height attribute neighbours steps workspace residue index =
-    map-call picture (grid-of width height neighbours) attribute steps workspace residue index
+abbrev pub map-by : {E F G H I : Type 0} → Lent E → ℕ → ℕ → ℕ → ℕ → Lent F → ℕ → Lent G → Lent H → Lent I → Map-call
+map-by picture width height attribute neighbours steps gap workspace residue index =
+    map-call picture (grid-of width height neighbours) attribute steps gap workspace residue index

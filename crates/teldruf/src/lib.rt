@@ -122,7 +122,7 @@ pub extern "C" fn teldruf_open(
     }
 }
 
-// Writes the residue map and the index map of a picture for a list of steps.
+// Writes the residue map and the index map of a picture for a list of steps, whose residues a gap joins.
 #[no_mangle]
 pub extern "C" fn teldruf_map(
     picture: &[u8],
@@ -131,14 +131,15 @@ pub extern "C" fn teldruf_map(
     attribute: u32,
     neighbours: u32,
     steps: &[u32],
+    gap: u32,
     workspace: &mut [u32],
     residue: &mut [u8],
     index: &mut [u16],
 ) -> u64
-    ensures answer { λ r. ⌜ r ≡ code-of (verdict-numbers (map-verdict (map-by picture width height attribute neighbours steps workspace residue index))) ⌝ }
-    ensures workspace { λ _. ⌜ now (workspace .exit) ≡ map-workspace (map-by picture width height attribute neighbours steps workspace residue index) ⌝ }
-    ensures residue { λ _. ⌜ now (residue .exit) ≡ map-residue (map-by picture width height attribute neighbours steps workspace residue index) ⌝ }
-    ensures index { λ _. ⌜ now (index .exit) ≡ map-index (map-by picture width height attribute neighbours steps workspace residue index) ⌝ }
+    ensures answer { λ r. ⌜ r ≡ code-of (verdict-numbers (map-verdict (map-by picture width height attribute neighbours steps gap workspace residue index))) ⌝ }
+    ensures workspace { λ _. ⌜ now (workspace .exit) ≡ map-workspace (map-by picture width height attribute neighbours steps gap workspace residue index) ⌝ }
+    ensures residue { λ _. ⌜ now (residue .exit) ≡ map-residue (map-by picture width height attribute neighbours steps gap workspace residue index) ⌝ }
+    ensures index { λ _. ⌜ now (index .exit) ≡ map-index (map-by picture width height attribute neighbours steps gap workspace residue index) ⌝ }
 {
     match residues::map(
         picture,
@@ -149,6 +150,7 @@ pub extern "C" fn teldruf_map(
         },
         attribute,
         steps,
+        gap,
         workspace,
         residue,
         index,

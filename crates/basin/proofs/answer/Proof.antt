@@ -17,13 +17,13 @@ raster-requires : tie.Need-raster-requires
 raster-requires c κs = search needs
 
 array-share-prefix-thresholds : tie.Need-array-share-prefix-thresholds
-array-share-prefix-thresholds c = let S = sizing _ _ _ _ _ _ _ (c .before .before .before .before .judge .ensures .0) (c .before .before .grid .given .1) in steps-room _ _ _ _ _ (c .before .before .before .before .judge .ensures .1 ∙ S .stored) refl (S .parsed)
+array-share-prefix-thresholds c = let S = sizing _ _ _ _ _ _ _ _ (c .before .before .before .before .judge .ensures .0) (c .before .before .grid .given .1) in steps-room _ _ _ _ _ (c .before .before .before .before .judge .ensures .1 ∙ S .stored) refl (S .parsed)
 
 slice-aggregate-maps : tie.Need-slice-aggregate-maps
-slice-aggregate-maps c = let S = sizing _ _ _ _ _ _ _ (c .before .before .before .before .before .judge .ensures .0) (c .before .before .before .grid .given .1) in taken _ _ (steps-room _ _ _ _ _ (c .before .before .before .before .before .judge .ensures .1 ∙ S .stored) refl (S .parsed))
+slice-aggregate-maps c = let S = sizing _ _ _ _ _ _ _ _ (c .before .before .before .before .before .judge .ensures .0) (c .before .before .before .grid .given .1) in taken _ _ (steps-room _ _ _ _ _ (c .before .before .before .before .before .judge .ensures .1 ∙ S .stored) refl (S .parsed))
 
 maps-requires : tie.Need-maps-requires
-maps-requires c κs = let S = sizing _ _ [] _ _ _ _ (c .before .before .before .before .before .judge .ensures .0) (c .before .before .before .grid .given .1) in rw (c .before .raster .ensures) (S .few)
+maps-requires c κs = let S = sizing _ _ [] _ _ _ _ _ (c .before .before .before .before .before .judge .ensures .0) (c .before .before .before .grid .given .1) in rw (c .before .raster .ensures) (S .few)
 
 enum-known-cause : tie.Need-enum-known-cause
 enum-known-cause c = search needs

@@ -59,6 +59,7 @@ call c =
       grid = a .grid;
       attribute = a .attribute;
       steps = now (a .steps);
+      gap = a .gap;
       workspace = take (words-a-pixel * n) (now (a .workspace));
       residue = take n (now (a .residue));
       index = take n (now (a .index));
@@ -67,18 +68,18 @@ call c =
 residue-back : (c : tie.After-map)
     → let a = c .before .before .before .before .before .before .before .before .before .args in
     let n : ℕ = length (now (a .picture)) in
-    length (take n (c .map .last .1 .1 .1 .1 .1 .0 ++ drop n (now (a .residue)))) ≡ n
+    length (take n (c .map .last .1 .1 .1 .1 .1 .1 .0 ++ drop n (now (a .residue)))) ≡ n
 residue-back c =
     let start = c .before .before .before .before .before .before .before .before .before in
-    returned (c .map .last .1 .1 .1 .1 .1 .0) (now (start .args .residue)) _ _ (omega (arith, start .pre)) (c .map .kept .1 .1 .1 .1 .1 .0)
+    returned (c .map .last .1 .1 .1 .1 .1 .1 .0) (now (start .args .residue)) _ _ (omega (arith, start .pre)) (c .map .kept .1 .1 .1 .1 .1 .1 .0)
 
 index-back : (c : tie.After-map)
     → let a = c .before .before .before .before .before .before .before .before .before .args in
     let n : ℕ = length (now (a .picture)) in
-    length (take n (c .map .last .1 .1 .1 .1 .1 .1 .0 ++ drop n (now (a .index)))) ≡ n
+    length (take n (c .map .last .1 .1 .1 .1 .1 .1 .1 .0 ++ drop n (now (a .index)))) ≡ n
 index-back c =
     let start = c .before .before .before .before .before .before .before .before .before in
-    returned (c .map .last .1 .1 .1 .1 .1 .1 .0) (now (start .args .index)) _ _ (omega (arith, start .pre)) (c .map .kept .1 .1 .1 .1 .1 .1 .0)
+    returned (c .map .last .1 .1 .1 .1 .1 .1 .1 .0) (now (start .args .index)) _ _ (omega (arith, start .pre)) (c .map .kept .1 .1 .1 .1 .1 .1 .1 .0)
 
 slice-reshare-prefix-listing : tie.Need-slice-reshare-prefix-listing
 slice-reshare-prefix-listing c = search needs

@@ -10,10 +10,10 @@ use Rattle.map_passes.proofs.settle_nodes.Statement.{statement}
 use Rattle.map_passes.proofs.settle_nodes.Tie as tie
 
 abbrev Inv-loop : tie.InvT-loop
-Inv-loop steps table n nodes ws₀ i₀ ws i = (i ≤ nodes) × Settled-from n nodes steps ws₀ ws i
+Inv-loop steps table gap n nodes ws₀ i₀ ws i = (i ≤ nodes) × Settled-from n nodes gap steps ws₀ ws i
 
 abbrev μ-loop : tie.MeasureT-loop
-μ-loop steps table n nodes ws₀ i₀ ws i = i
+μ-loop steps table gap n nodes ws₀ i₀ ws i = i
 
 loop-holds : tie.Need-loop-holds Inv-loop μ-loop
 loop-holds c = (omega arith, visit-start)
@@ -53,7 +53,7 @@ same-length : tie.Need-same-length Inv-loop μ-loop
 same-length c = c .before .loop .inv .1 .kept .words
 
 returns : tie.Need-returns Inv-loop μ-loop
-returns c = subst (Settled-from _ _ _ _ _) (omega arith) (c .before .loop .inv .1)
+returns c = subst (Settled-from _ _ _ _ _ _) (omega arith) (c .before .loop .inv .1)
 
 pub settle-nodes-spec : {M : Type 1} → statement M
 settle-nodes-spec =

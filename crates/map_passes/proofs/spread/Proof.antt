@@ -1,11 +1,11 @@
 -- `map_passes::spread` meets its contract. The loop's invariant: in both maps the entries below p are those of the pairs that the nodes
 -- hold. The measure is how many pixels are left.
-use Prim.Native.Nat.{ℕ, _-_, _%_, _≤_, _<_}
+use Prim.Native.Nat.{ℕ, _-_, _≤_, _<_}
 use mathlib.Core.Path.{refl}
 use native.Mathlib.Omega.{arith}
 use lib.ListN.{getD}
-use Rattle.map_passes.specs.Settle.{index-in}
-use Rattle.map_passes.specs.Passes.{pair-at}
+use Rattle.map_passes.specs.Settle.{total-in, index-in}
+use Rattle.map_passes.specs.Passes.{pair-for}
 use Rattle.map_passes.proofs.Spreading.{Right-to, spread-begins, spread-more, spread-ends}
 use borrow.Author.Needs.{needs}
 use Rattle.map_passes.proofs.spread.Statement.{statement}
@@ -13,7 +13,7 @@ use Rattle.map_passes.proofs.spread.Tie as tie
 
 abbrev Inv-loop : tie.InvT-loop
 Inv-loop n ws residues₀ indices₀ p₀ residues indices p =
-    (p ≤ n) × Right-to n (λ (q : ℕ). pair-at n ws q % 256) residues p × Right-to n (λ (q : ℕ). index-in (pair-at n ws q)) indices p
+    (p ≤ n) × Right-to n (λ (q : ℕ). total-in (pair-for n ws q)) residues p × Right-to n (λ (q : ℕ). index-in (pair-for n ws q)) indices p
 
 abbrev μ-loop : tie.MeasureT-loop
 μ-loop n ws residues₀ indices₀ p₀ residues indices p = n - p
@@ -21,6 +21,10 @@ abbrev μ-loop : tie.MeasureT-loop
 -- the number of a pixel's node has a word
 number : (c : tie.In-loop Inv-loop μ-loop) → getD (c .before .before .args .ws .now) (c .before .loop .p) 0 < c .before .before .args .n
 number c = c .before .before .pre .within (c .before .loop .p) (c .loop-test .taken)
+
+-- and its pair 16 bits
+sixteen : (c : tie.In-loop Inv-loop μ-loop) → pair-for (c .before .before .args .n) (c .before .before .args .ws .now) (c .before .loop .p) < 65536
+sixteen c = c .before .before .pre .fits (c .before .loop .p) (c .loop-test .taken)
 
 loop-holds : tie.Need-loop-holds Inv-loop μ-loop
 loop-holds c = (omega arith, spread-begins _ _ (c .pre .residues-size), spread-begins _ _ (c .pre .indices-size))
@@ -53,10 +57,10 @@ slice-write-residues : tie.Need-slice-write-residues Inv-loop μ-loop
 slice-write-residues c = omega (arith, c .before .before .before .loop .inv .1 .size)
 
 add-indices : tie.Need-add-indices Inv-loop μ-loop
-add-indices c = search needs
+add-indices c = omega (arith, sixteen (c .before .before))
 
 cast-indices : tie.Need-cast-indices Inv-loop μ-loop
-cast-indices c = search needs
+cast-indices c = omega (arith, sixteen (c .before .before))
 
 mul-indices : tie.Need-mul-indices Inv-loop μ-loop
 mul-indices c = search needs

@@ -1,5 +1,5 @@
 -- `map_passes::visit` meets its contract.
-use Rattle.map_passes.proofs.Visiting.{visit-ready, visit-stores}
+use Rattle.map_passes.proofs.Visiting.{visit-ready, visit-never, visit-settles}
 use borrow.Author.Needs.{needs}
 use Rattle.map_passes.proofs.visit.Statement.{statement}
 use Rattle.map_passes.proofs.visit.Tie as tie
@@ -58,38 +58,37 @@ slice-read-a c = search needs
 place-requires : tie.Need-place-requires
 place-requires c κs = search needs
 
-mul-settle : tie.Need-mul-settle
-mul-settle c = search needs
-
-mul-settle-2 : tie.Need-mul-settle-2
-mul-settle-2 c = search needs
-
-mul-settle-3 : tie.Need-mul-settle-3
-mul-settle-3 c = search needs
-
-sub-settle : tie.Need-sub-settle
-sub-settle c = search needs
-
-part-settle-start : tie.Need-part-settle-start
-part-settle-start c = search needs
-
-part-settle-end : tie.Need-part-settle-end
-part-settle-end c = search needs
-
-settle-requires : tie.Need-settle-requires
-settle-requires c κs =
-    let placed = c .before in
-    let start = placed .before .before .before .before .before .before in
-    visit-ready (start .pre .0) (placed .place .ensures)
+store-requires : tie.Need-store-requires
+store-requires c κs = search needs
 
 same-length : tie.Need-same-length
 same-length c = search needs
 
 returns : tie.Need-returns
 returns c =
-    let placed = c .before .before .before .before in
+    let never = c .before .before .before .before in
+    let placed = never .before in
     let start = placed .before .before .before .before .before .before in
-    visit-stores (start .pre .0) (placed .place .ensures) (c .before .before .settle .ensures)
+    visit-never (start .pre .0) (placed .place .ensures) (never .if1 .taken) (c .before .before .store .ensures)
+
+cast-settle : tie.Need-cast-settle
+cast-settle c = search needs
+
+settle-requires : tie.Need-settle-requires
+settle-requires c κs =
+    let placed = c .before .before in
+    let start = placed .before .before .before .before .before .before in
+    visit-ready (start .pre .0) (placed .place .ensures) (c .before .if1 .left)
+
+same-length-2 : tie.Need-same-length-2
+same-length-2 c = search needs
+
+returns-2 : tie.Need-returns-2
+returns-2 c =
+    let falls = c .before .before .before .before in
+    let placed = falls .before in
+    let start = placed .before .before .before .before .before .before in
+    visit-settles (start .pre .0) (placed .place .ensures) (falls .if1 .left) (c .before .before .settle .ensures)
 
 pub visit-spec : {M : Type 1} → statement M
 visit-spec =
@@ -113,12 +112,10 @@ visit-spec =
     mul-a-3
     slice-read-a
     place-requires
-    mul-settle
-    mul-settle-2
-    mul-settle-3
-    sub-settle
-    part-settle-start
-    part-settle-end
-    settle-requires
+    store-requires
     same-length
-    returns)
+    returns
+    cast-settle
+    settle-requires
+    same-length-2
+    returns-2)

@@ -1,7 +1,7 @@
 -- `residues::map` meets its contract. Assumes nothing.
 use mathlib.Core.Path.{_≡_}
 use denote.Ref.{now}
-use Rattle.causes.specs.declared.Cause.the-variants.{Steps, Workspace, Output}
+use Rattle.causes.specs.declared.Cause.the-variants.{Steps, Gap, Workspace, Output}
 use Rattle.calls.specs.Calls.{Map-call, map-verdict}
 use Rattle.calls.proofs.Judging.{tested}
 use Rattle.residues.proofs.Mapping.{called-refused, build-asks, passes-ask, record-asks, called-done}
@@ -18,53 +18,64 @@ steps-good-requires c κs = search needs
 also-requires : tie.Need-also-requires
 also-requires c κs = search needs
 
-words-each-requires : tie.Need-words-each-requires
-words-each-requires c κs = search needs
+gap-good-requires : tie.Need-gap-good-requires
+gap-good-requires c κs = search needs
 
 also-requires-2 : tie.Need-also-requires-2
 also-requires-2 c κs = search needs
 
-entry-each-requires : tie.Need-entry-each-requires
-entry-each-requires c κs = search needs
+words-each-requires : tie.Need-words-each-requires
+words-each-requires c κs = search needs
 
 also-requires-3 : tie.Need-also-requires-3
 also-requires-3 c κs = search needs
 
-entry-each-requires-2 : tie.Need-entry-each-requires-2
-entry-each-requires-2 c κs = search needs
+entry-each-requires : tie.Need-entry-each-requires
+entry-each-requires c κs = search needs
 
 also-requires-4 : tie.Need-also-requires-4
 also-requires-4 c κs = search needs
+
+entry-each-requires-2 : tie.Need-entry-each-requires-2
+entry-each-requires-2 c κs = search needs
+
+also-requires-5 : tie.Need-also-requires-5
+also-requires-5 c κs = search needs
 
 enum-known-verdict : tie.Need-enum-known-verdict
 enum-known-verdict c = search needs
 
 -- the call, and that the verdict found is the one on it
-abbrev call : tie.After-also4 → Map-call
+abbrev call : tie.After-also5 → Map-call
 call c =
-    let named = c .before .before .before .before .before .before .before .before in
+    let named = c .before .before .before .before .before .before .before .before .before .before in
     let a = named .before .before .before .before .before .before .args in
     record {
       picture = now (a .picture);
       grid = a .grid;
       attribute = a .attribute;
       steps = now (a .steps);
+      gap = a .gap;
       workspace = now (a .workspace);
       residue = now (a .residue);
       index = now (a .index);
     }
 
-judged : (c : tie.After-also4) → c .also4 .result ≡ map-verdict (call c)
+judged : (c : tie.After-also5) → c .also5 .result ≡ map-verdict (call c)
 judged c =
     let by-words = c .before .before .before .before in
-    let by-steps = by-words .before .before in
+    let by-gap = by-words .before .before in
+    let by-steps = by-gap .before .before in
     tested Output
-    (c .also4 .ensures)
+    (c .also5 .ensures)
     (tested Output
-    (c .before .before .also3 .ensures)
+    (c .before .before .also4 .ensures)
     (tested Workspace
-    (by-words .also2 .ensures)
+    (by-words .also3 .ensures)
+    (tested Gap
+    (by-gap .also2 .ensures)
     (tested Steps (by-steps .also .ensures) (by-steps .before .before .judge-picture .ensures) (by-steps .before .steps-good .ensures))
+    (by-gap .before .gap-good .ensures))
     (by-words .before .words-each .ensures))
     (c .before .before .before .entry-each .ensures))
     (c .before .entry-each2 .ensures)
@@ -85,7 +96,7 @@ write-maps-requires c κs =
     let built = c .before .before .before .before .before in
     let told = built .before .before in
     let at = told .before .before in
-    let named = at .before .before .before .before .before .before .before .before in
+    let named = at .before .before .before .before .before .before .before .before .before .before in
     let lent = named .before .before .before .before .before in
     passes-ask (call at) (judged at) (told .enum-told .given .1) (built .build-nodes .ensures)
     (λ q. lent .shared-slice-known .given q .fits)
@@ -130,12 +141,14 @@ map-spec =
     judge-picture-requires
     steps-good-requires
     also-requires
-    words-each-requires
+    gap-good-requires
     also-requires-2
-    entry-each-requires
+    words-each-requires
     also-requires-3
-    entry-each-requires-2
+    entry-each-requires
     also-requires-4
+    entry-each-requires-2
+    also-requires-5
     enum-known-verdict
     returns
     enum-told
