@@ -15,9 +15,10 @@ use Rattle.grid.proofs.Attributes.{adjacent-symmetric, attribute-increasing}
 use Rattle.grid.proofs.Whole.{grid-whole}
 use Rattle.opening.specs.Opening.{at-least, component-at, least-grey}
 use Rattle.opening.specs.Leveling.{Leveling}
-use Rattle.opening.specs.Residue.{falls-from, largest, largest-place, threshold-tests, openings-by, residue-by, index-by}
+use Rattle.opening.specs.Residue.{largest, largest-place, threshold-tests, residues}
 use Rattle.opening.proofs.Levels.{least-grey-le, least-grey-attained}
 use Rattle.opening.proofs.Components.{component-grey}
+use Rattle.opening.proofs.Joined.{residue-zero, index-zero}
 use Rattle.opening.proofs.Leveling.{opened-leveling, leveling-ext}
 use Rattle.opening.proofs.Threshold.{at-least-up, opened-zero}
 use Rattle.opening.proofs.Agree.{opened-equal}
@@ -63,8 +64,8 @@ root-exactly grid picture wide p below = (
 
 -- what an accepted map call writes
 maps-accepted : (call : Map-call) → map-verdict call ≡ Accepted
-    → (map-residue call ≡ residue-map (call .grid) (call .attribute) (call .steps) (call .picture))
-    × (map-index call ≡ index-map (call .grid) (call .attribute) (call .steps) (call .picture))
+    → (map-residue call ≡ residue-map (call .grid) (call .attribute) (call .steps) (call .gap) (call .picture))
+    × (map-index call ≡ index-map (call .grid) (call .attribute) (call .steps) (call .gap) (call .picture))
 unfolding map-residue map-index
 maps-accepted call ok = (rw ok, rw ok)
 
@@ -137,9 +138,8 @@ module _ (grid : Grid) (a : ℕ) (original : List ℕ) where
     module _ (steps : List ℕ) (same-steps : accepted-thresholds original calls ≡ steps) (good : steps-good steps ≡ true) where
       falls-residues : (p : ℕ) → p < pixels grid
           → chain-falls original calls p
-          ≡ falls-from
-          (grey original p)
-          (openings-by (pixels grid) (adjacent grid) (threshold-tests (attribute grid a) steps) (grey original) p)
+          ≡ residues (pixels grid) (adjacent grid) (threshold-tests (attribute grid a) steps) (grey original) p
+      unfolding residues
       falls-residues p below =
           rw
           (← same-steps, original-opened p below)
@@ -156,12 +156,12 @@ module _ (grid : Grid) (a : ℕ) (original : List ℕ) where
           p
           below)
 
-      chain-maps : (chain-residues (pixels grid) original calls ≡ residue-map grid a steps original)
-          × (chain-indices (pixels grid) original calls ≡ index-map grid a steps original)
-      unfolding chain-residues chain-indices residue-map index-map residue-by index-by
+      chain-maps : (chain-residues (pixels grid) original calls ≡ residue-map grid a steps 0 original)
+          × (chain-indices (pixels grid) original calls ≡ index-map grid a steps 0 original)
+      unfolding chain-residues chain-indices residue-map index-map
       chain-maps = (
-        table-ext (pixels grid) _ _ (λ p below. ap largest (falls-residues p below)),
-        table-ext (pixels grid) _ _ (λ p below. ap largest-place (falls-residues p below)),
+        table-ext (pixels grid) _ _ (λ p below. ap largest (falls-residues p below) ∙ sym (residue-zero _ _ _ _ p)),
+        table-ext (pixels grid) _ _ (λ p below. ap largest-place (falls-residues p below) ∙ sym (index-zero _ _ _ _ p)),
       )
 
   -- Demand 3: for every chain, and every single opening and map call that it is compared with.
@@ -190,6 +190,6 @@ module _ (grid : Grid) (a : ℕ) (original : List ℕ) where
         falls = chain-falls-total grid a original calls (chain .named);
         maps = λ steps thresholds good workspace residue index ok.
             let (same-residues, same-indices) = chain-maps calls (chain .named) steps thresholds good in
-            let (written-residues, written-indices) = maps-accepted (mapping-of original grid a steps workspace residue index) ok in
+            let (written-residues, written-indices) = maps-accepted (mapping-of original grid a steps 0 workspace residue index) ok in
             (same-residues ∙ sym written-residues, same-indices ∙ sym written-indices);
       }

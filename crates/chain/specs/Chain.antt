@@ -144,8 +144,9 @@ pub record Claim (grid : Grid) (a : ℕ) (original : List ℕ) (calls : List Cal
   -- picture add up to the grey that it had
   pub falls : (p : ℕ) → p < pixels grid → total (chain-falls original calls p) + grey (chain-picture original calls) p ≡ grey original p
   -- "If the accepted thresholds, in order, are a step list, [..] both [maps] equal, at every pixel, what an accepted map call on the
-  -- original writes for that list and the chain's width, height and attribute." The map call names the chain's grid, so its neighbourhood too.
+  -- original writes for that list and the chain's width, height and attribute." The map call names the chain's grid, so its neighbourhood too,
+  -- and the gap 0: "the maps of demand 2 and of chains are those at gap 0".
   pub maps : (steps : List ℕ) → accepted-thresholds original calls ≡ steps → steps-good steps ≡ true
-      → (workspace residue index : List ℕ) → map-verdict (mapping-of original grid a steps workspace residue index) ≡ Accepted
-      → (chain-residues (pixels grid) original calls ≡ map-residue (mapping-of original grid a steps workspace residue index))
-      × (chain-indices (pixels grid) original calls ≡ map-index (mapping-of original grid a steps workspace residue index))
+      → (workspace residue index : List ℕ) → map-verdict (mapping-of original grid a steps 0 workspace residue index) ≡ Accepted
+      → (chain-residues (pixels grid) original calls ≡ map-residue (mapping-of original grid a steps 0 workspace residue index))
+      × (chain-indices (pixels grid) original calls ≡ map-index (mapping-of original grid a steps 0 workspace residue index))

@@ -13,7 +13,7 @@ use Rattle.grid.specs.Pixels.{grid-of}
 use Rattle.grid.specs.Neighbours.{adjacent}
 use Rattle.grid.specs.Attributes.{extent, side, visible, on-frame, attribute}
 use Rattle.opening.specs.Opening.{component-at, least-grey, Keeps, at-least, highest-above, opened-by}
-use Rattle.opening.specs.Residue.{falls-from, largest, last-place, largest-place, threshold-tests, openings-by, residue-by, index-by}
+use Rattle.opening.specs.Residue.{falls-from, soon, joined, largest, last-place, largest-place, threshold-tests, openings-by, residues, residue-by, index-by}
 use Rattle.tree.specs.Tree.{lowest-own, representative, node-below, parent-representative, is-representative, number-of-nodes}
 use Rattle.tree.specs.Tree.{parent-word, attribute-word, parents, attributes, put, by-level, listing, workspace}
 use Rattle.calls.specs.Judging.{attribute-good, neighbours-good, also}
@@ -89,34 +89,40 @@ openings-are a (t ∷ steps) p below =
       table-at 21 (opened-by 21 near (at-least (attribute (grid-of 7 3 4) a) t) (grey ringed-P)) p 0 below,
     )
 
-residue-is : (a : ℕ) (steps : List ℕ) → residue-map (grid-of 7 3 4) a steps ringed-P ≡ mapped largest (map (opened-P a) steps)
-unfolding mapped residue-by residue-map
-residue-is a steps =
-    table-ext 21 _ _ (λ p below. ap (λ (l : List ℕ). largest (falls-from (grey ringed-P p) l)) (openings-are a steps p below))
+residue-is : (a : ℕ) (steps : List ℕ) (gap : ℕ)
+    → residue-map (grid-of 7 3 4) a steps gap ringed-P ≡ mapped (λ (rs : List ℕ). largest (joined gap 0 rs)) (map (opened-P a) steps)
+unfolding mapped residues residue-by residue-map
+residue-is a steps gap =
+    table-ext 21 _ _
+    (λ p below. ap (λ (l : List ℕ). largest (joined gap 0 (falls-from (grey ringed-P p) l))) (openings-are a steps p below))
 
-index-is : (a : ℕ) (steps : List ℕ) → index-map (grid-of 7 3 4) a steps ringed-P ≡ mapped largest-place (map (opened-P a) steps)
-unfolding mapped index-by index-map
-index-is a steps =
-    table-ext 21 _ _ (λ p below. ap (λ (l : List ℕ). largest-place (falls-from (grey ringed-P p) l)) (openings-are a steps p below))
+index-is : (a : ℕ) (steps : List ℕ) (gap : ℕ)
+    → index-map (grid-of 7 3 4) a steps gap ringed-P ≡ mapped (λ (rs : List ℕ). largest-place (joined gap 0 rs)) (map (opened-P a) steps)
+unfolding mapped residues index-by index-map
+index-is a steps gap =
+    table-ext 21 _ _
+    (λ p below. ap (λ (l : List ℕ). largest-place (joined gap 0 (falls-from (grey ringed-P p) l))) (openings-are a steps p below))
 
 pub starred : Starred
 unfolding components-P opened-from opened-P mapped adjacent some-in count table-from table gather seed grow grown component extent side visible
-    on-frame attribute component-at least-grey highest-above opened-by falls-from largest last-place largest-place residue-by index-by
-    residue-map index-map
+    on-frame attribute component-at least-grey highest-above opened-by falls-from soon joined largest last-place largest-place residues
+    residue-by index-by residue-map index-map
 starred =
     record {
       tree-record = record-is;
       tree-nodes = built-is;
-      steps-1-2-3-4-residue = residue-is 1 (1 ∷ 2 ∷ 3 ∷ 4 ∷ []);
-      steps-1-2-3-4-index = index-is 1 (1 ∷ 2 ∷ 3 ∷ 4 ∷ []);
-      steps-2-4-residue = residue-is 1 (2 ∷ 4 ∷ []);
-      steps-2-4-index = index-is 1 (2 ∷ 4 ∷ []);
-      step-1-residue = residue-is 1 (1 ∷ []);
-      step-1-index = index-is 1 (1 ∷ []);
-      step-6-residue = residue-is 1 (6 ∷ []);
-      step-6-index = index-is 1 (6 ∷ []);
-      height-residue = residue-is 2 (1 ∷ 2 ∷ []);
-      height-index = index-is 2 (1 ∷ 2 ∷ []);
+      steps-1-2-3-4-residue = residue-is 1 (1 ∷ 2 ∷ 3 ∷ 4 ∷ []) 0;
+      steps-1-2-3-4-index = index-is 1 (1 ∷ 2 ∷ 3 ∷ 4 ∷ []) 0;
+      gap-2-residue = residue-is 1 (1 ∷ 2 ∷ 3 ∷ 4 ∷ []) 2;
+      gap-2-index = index-is 1 (1 ∷ 2 ∷ 3 ∷ 4 ∷ []) 2;
+      steps-2-4-residue = residue-is 1 (2 ∷ 4 ∷ []) 0;
+      steps-2-4-index = index-is 1 (2 ∷ 4 ∷ []) 0;
+      step-1-residue = residue-is 1 (1 ∷ []) 0;
+      step-1-index = index-is 1 (1 ∷ []) 0;
+      step-6-residue = residue-is 1 (6 ∷ []) 0;
+      step-6-index = index-is 1 (6 ∷ []) 0;
+      height-residue = residue-is 2 (1 ∷ 2 ∷ []) 0;
+      height-index = index-is 2 (1 ∷ 2 ∷ []) 0;
       opened-2 = opened-is 1 2;
       opened-3 = opened-is 1 3;
       opened-4 = opened-is 1 4;

@@ -1,5 +1,5 @@
--- The cases for proof of the scope's table of small pictures, which name 4 neighbours, and the one that request E2 adds, as one statement over the
--- definitions that the calls' contracts state. By request E6 they "are then set in a ring, one pixel wide, of their least grey; their light maps and
+-- The cases for proof of the scope's table of small pictures, which name 4 neighbours and gap 0, and those that requests E2 and E4 add, as one
+-- statement over the definitions that the calls' contracts state. By request E6 they "are then set in a ring, one pixel wide, of their least grey; their light maps and
 -- openings inside it stay, and the tree case" is "worked out again". The ring itself has no residue and keeps its grey.
 use Prim.Native.Nat.{ℕ, _+_}
 use mathlib.Core.List.{List, [], _∷_, _++_, foldr}
@@ -53,27 +53,30 @@ pub record Starred : Type 0 where
   pub tree-record : record-of (grid-of 7 3 4) 1 ringed-P ≡ parents-P ++ attributes-P ++ nodes-P ++ replicate 84 0
   pub tree-nodes : (lent : List ℕ) → length lent ≡ 147 → built (building-P lent) ≡ Nodes 4
   -- "P, area, steps 1 2 3 4: residue 0 10 10 30 0, index 0 4 4 2 0."
-  pub steps-1-2-3-4-residue : residue-map (grid-of 7 3 4) 1 (1 ∷ 2 ∷ 3 ∷ 4 ∷ []) ringed-P ≡ ringed 0 5 ((0 ∷ 10 ∷ 10 ∷ 30 ∷ 0 ∷ []) ∷ [])
-  pub steps-1-2-3-4-index : index-map (grid-of 7 3 4) 1 (1 ∷ 2 ∷ 3 ∷ 4 ∷ []) ringed-P ≡ ringed 0 5 ((0 ∷ 4 ∷ 4 ∷ 2 ∷ 0 ∷ []) ∷ [])
+  pub steps-1-2-3-4-residue : residue-map (grid-of 7 3 4) 1 (1 ∷ 2 ∷ 3 ∷ 4 ∷ []) 0 ringed-P ≡ ringed 0 5 ((0 ∷ 10 ∷ 10 ∷ 30 ∷ 0 ∷ []) ∷ [])
+  pub steps-1-2-3-4-index : index-map (grid-of 7 3 4) 1 (1 ∷ 2 ∷ 3 ∷ 4 ∷ []) 0 ringed-P ≡ ringed 0 5 ((0 ∷ 4 ∷ 4 ∷ 2 ∷ 0 ∷ []) ∷ [])
+  -- "P with area, steps 1 to 4, gap 2 gives 0 20 10 40 0 and 0 4 4 4 0."
+  pub gap-2-residue : residue-map (grid-of 7 3 4) 1 (1 ∷ 2 ∷ 3 ∷ 4 ∷ []) 2 ringed-P ≡ ringed 0 5 ((0 ∷ 20 ∷ 10 ∷ 40 ∷ 0 ∷ []) ∷ [])
+  pub gap-2-index : index-map (grid-of 7 3 4) 1 (1 ∷ 2 ∷ 3 ∷ 4 ∷ []) 2 ringed-P ≡ ringed 0 5 ((0 ∷ 4 ∷ 4 ∷ 4 ∷ 0 ∷ []) ∷ [])
   -- "P, area, steps 2 4: same residue, index 0 2 2 1 0."
-  pub steps-2-4-residue : residue-map (grid-of 7 3 4) 1 (2 ∷ 4 ∷ []) ringed-P ≡ ringed 0 5 ((0 ∷ 10 ∷ 10 ∷ 30 ∷ 0 ∷ []) ∷ [])
-  pub steps-2-4-index : index-map (grid-of 7 3 4) 1 (2 ∷ 4 ∷ []) ringed-P ≡ ringed 0 5 ((0 ∷ 2 ∷ 2 ∷ 1 ∷ 0 ∷ []) ∷ [])
+  pub steps-2-4-residue : residue-map (grid-of 7 3 4) 1 (2 ∷ 4 ∷ []) 0 ringed-P ≡ ringed 0 5 ((0 ∷ 10 ∷ 10 ∷ 30 ∷ 0 ∷ []) ∷ [])
+  pub steps-2-4-index : index-map (grid-of 7 3 4) 1 (2 ∷ 4 ∷ []) 0 ringed-P ≡ ringed 0 5 ((0 ∷ 2 ∷ 2 ∷ 1 ∷ 0 ∷ []) ∷ [])
   -- "P, area, step 1: all 0."
-  pub step-1-residue : residue-map (grid-of 7 3 4) 1 (1 ∷ []) ringed-P ≡ ringed 0 5 ((0 ∷ 0 ∷ 0 ∷ 0 ∷ 0 ∷ []) ∷ [])
-  pub step-1-index : index-map (grid-of 7 3 4) 1 (1 ∷ []) ringed-P ≡ ringed 0 5 ((0 ∷ 0 ∷ 0 ∷ 0 ∷ 0 ∷ []) ∷ [])
+  pub step-1-residue : residue-map (grid-of 7 3 4) 1 (1 ∷ []) 0 ringed-P ≡ ringed 0 5 ((0 ∷ 0 ∷ 0 ∷ 0 ∷ 0 ∷ []) ∷ [])
+  pub step-1-index : index-map (grid-of 7 3 4) 1 (1 ∷ []) 0 ringed-P ≡ ringed 0 5 ((0 ∷ 0 ∷ 0 ∷ 0 ∷ 0 ∷ []) ∷ [])
   -- "P, area, step 6: residue 0 20 10 40 0, index 0 1 1 1 0."
-  pub step-6-residue : residue-map (grid-of 7 3 4) 1 (6 ∷ []) ringed-P ≡ ringed 0 5 ((0 ∷ 20 ∷ 10 ∷ 40 ∷ 0 ∷ []) ∷ [])
-  pub step-6-index : index-map (grid-of 7 3 4) 1 (6 ∷ []) ringed-P ≡ ringed 0 5 ((0 ∷ 1 ∷ 1 ∷ 1 ∷ 0 ∷ []) ∷ [])
+  pub step-6-residue : residue-map (grid-of 7 3 4) 1 (6 ∷ []) 0 ringed-P ≡ ringed 0 5 ((0 ∷ 20 ∷ 10 ∷ 40 ∷ 0 ∷ []) ∷ [])
+  pub step-6-index : index-map (grid-of 7 3 4) 1 (6 ∷ []) 0 ringed-P ≡ ringed 0 5 ((0 ∷ 1 ∷ 1 ∷ 1 ∷ 0 ∷ []) ∷ [])
   -- "P, height, steps 1 2: residue 0 20 10 40 0, index 0 2 2 2 0."
-  pub height-residue : residue-map (grid-of 7 3 4) 2 (1 ∷ 2 ∷ []) ringed-P ≡ ringed 0 5 ((0 ∷ 20 ∷ 10 ∷ 40 ∷ 0 ∷ []) ∷ [])
-  pub height-index : index-map (grid-of 7 3 4) 2 (1 ∷ 2 ∷ []) ringed-P ≡ ringed 0 5 ((0 ∷ 2 ∷ 2 ∷ 2 ∷ 0 ∷ []) ∷ [])
+  pub height-residue : residue-map (grid-of 7 3 4) 2 (1 ∷ 2 ∷ []) 0 ringed-P ≡ ringed 0 5 ((0 ∷ 20 ∷ 10 ∷ 40 ∷ 0 ∷ []) ∷ [])
+  pub height-index : index-map (grid-of 7 3 4) 2 (1 ∷ 2 ∷ []) 0 ringed-P ≡ ringed 0 5 ((0 ∷ 2 ∷ 2 ∷ 2 ∷ 0 ∷ []) ∷ [])
   -- "P opened by area at 2 and at 3: both 10 20 20 20 10. At 4: all 10."
   pub opened-2 : opened-picture (grid-of 7 3 4) 1 2 ringed-P ≡ ringed 10 5 ((10 ∷ 20 ∷ 20 ∷ 20 ∷ 10 ∷ []) ∷ [])
   pub opened-3 : opened-picture (grid-of 7 3 4) 1 3 ringed-P ≡ ringed 10 5 ((10 ∷ 20 ∷ 20 ∷ 20 ∷ 10 ∷ []) ∷ [])
   pub opened-4 : opened-picture (grid-of 7 3 4) 1 4 ringed-P ≡ ringed 10 5 ((10 ∷ 10 ∷ 10 ∷ 10 ∷ 10 ∷ []) ∷ [])
   -- "Two rows, 9 0 and 0 9, area, step 2: residue 9 0 0 9, index 1 0 0 1."
-  pub two-rows-residue : residue-map (grid-of 4 4 4) 1 (2 ∷ []) ringed-Q ≡ ringed 0 2 ((9 ∷ 0 ∷ []) ∷ (0 ∷ 9 ∷ []) ∷ [])
-  pub two-rows-index : index-map (grid-of 4 4 4) 1 (2 ∷ []) ringed-Q ≡ ringed 0 2 ((1 ∷ 0 ∷ []) ∷ (0 ∷ 1 ∷ []) ∷ [])
+  pub two-rows-residue : residue-map (grid-of 4 4 4) 1 (2 ∷ []) 0 ringed-Q ≡ ringed 0 2 ((9 ∷ 0 ∷ []) ∷ (0 ∷ 9 ∷ []) ∷ [])
+  pub two-rows-index : index-map (grid-of 4 4 4) 1 (2 ∷ []) 0 ringed-Q ≡ ringed 0 2 ((1 ∷ 0 ∷ []) ∷ (0 ∷ 1 ∷ []) ∷ [])
   -- "With 8, the two-row case of 01 has zero maps."
-  pub corners-residue : residue-map (grid-of 4 4 8) 1 (2 ∷ []) ringed-Q ≡ ringed 0 2 ((0 ∷ 0 ∷ []) ∷ (0 ∷ 0 ∷ []) ∷ [])
-  pub corners-index : index-map (grid-of 4 4 8) 1 (2 ∷ []) ringed-Q ≡ ringed 0 2 ((0 ∷ 0 ∷ []) ∷ (0 ∷ 0 ∷ []) ∷ [])
+  pub corners-residue : residue-map (grid-of 4 4 8) 1 (2 ∷ []) 0 ringed-Q ≡ ringed 0 2 ((0 ∷ 0 ∷ []) ∷ (0 ∷ 0 ∷ []) ∷ [])
+  pub corners-index : index-map (grid-of 4 4 8) 1 (2 ∷ []) 0 ringed-Q ≡ ringed 0 2 ((0 ∷ 0 ∷ []) ∷ (0 ∷ 0 ∷ []) ∷ [])
