@@ -12,6 +12,7 @@ fn maps(
     attribute: u32,
     neighbours: u32,
     steps: &[u32],
+    gap: u32,
     workspace: &mut [u32],
     residue: &mut [u8],
     index: &mut [u16],
@@ -26,6 +27,7 @@ fn maps(
         },
         attribute,
         steps,
+        gap,
         workspace,
         residue,
         index,
@@ -55,9 +57,10 @@ fn case(line: &[u8]) {
         table::number(line, 4),
         table::number(line, 5),
         table::words(line, 6, &mut thresholds),
-        table::lent_words(line, 7, &mut workspace),
-        table::lent_bytes(line, 8, &mut residue),
-        table::lent_entries(line, 9, &mut index),
+        table::number(line, 7),
+        table::lent_words(line, 8, &mut workspace),
+        table::lent_bytes(line, 9, &mut residue),
+        table::lent_entries(line, 10, &mut index),
     );
 }
 
