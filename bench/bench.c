@@ -17,9 +17,10 @@
 
 enum { CAMERA_SECONDS = 20 };
 
-/* The most neighbours that the earlier library knows, 0 without one. */
+/* The most neighbours that the earlier library knows, 0 without one, and how many of the calls. */
 #ifndef BEFORE
 #define BEFORE 0
+#define BEFORE_PARTS 0
 #endif
 
 enum { LIBRARY, FLOOD, UNION, EARLIER, WAYS };
@@ -27,8 +28,8 @@ enum { LIBRARY, FLOOD, UNION, EARLIER, WAYS };
 static const char *const ways[] = {"library", "flooding in C", "union-find in C"};
 static const char *const attributes[] = {"area", "height", "width"};
 
-/* How many of the ways run: the earlier library where it knows the neighbours named. */
-static int ways_with(uint32_t neighbours) { return neighbours <= BEFORE ? WAYS : EARLIER; }
+/* How many of the ways run: the earlier library where it knows the neighbours named and the call. */
+static int ways_with(uint32_t neighbours, int part) { return neighbours <= BEFORE && part < BEFORE_PARTS ? WAYS : EARLIER; }
 
 static uint64_t c_call(record_fn *record, map_fn *map, int part, const picture_t *p, uint32_t attribute, result_t *r) {
     if (part == BUILD)
@@ -36,7 +37,7 @@ static uint64_t c_call(record_fn *record, map_fn *map, int part, const picture_t
     if (part == OPENING)
         c_open(record, p, attribute, THRESHOLD, r->ws, r->output);
     else
-        map(p, attribute, steps, STEPS, r->ws, r->residue, r->index);
+        map(p, attribute, steps, STEPS, gaps[part], r->ws, r->residue, r->index);
     return 0;
 }
 
@@ -53,27 +54,48 @@ static uint64_t call(int way, int part, const picture_t *picture, uint32_t attri
 
 static double timed(int way, int part, const picture_t *picture, uint32_t attribute, result_t *r) {
     double start = milliseconds();
-    uint64_t answer = call(way, part, picture, attribute, r);
-    double time = milliseconds() - start;
+    r->answer = call(way, part, picture, attribute, r);
+    return milliseconds() - start;
+}
+
+/* Whether two ways left the same after a call. */
+static int agree(int part, const result_t *a, const result_t *b) {
+    if (a->answer != b->answer || memcmp(a->ws, b->ws, TELDRUF_WORDS_A_PIXEL * PIXELS * sizeof *a->ws) != 0)
+        return 0;
     if (part == BUILD)
-        r->nodes = answer;
-    else if (answer != 0)
-        r->nodes = UINT64_MAX;
-    return time;
+        return 1;
+    if (part == OPENING)
+        return memcmp(a->output, b->output, PIXELS) == 0;
+    return memcmp(a->residue, b->residue, PIXELS) == 0 && memcmp(a->index, b->index, PIXELS * sizeof *a->index) == 0;
 }
 
-static int agree(const result_t *a, const result_t *b) {
-    return a->nodes == b->nodes && memcmp(a->ws, b->ws, TELDRUF_WORDS_A_PIXEL * PIXELS * sizeof *a->ws) == 0 &&
-           memcmp(a->output, b->output, PIXELS) == 0 && memcmp(a->residue, b->residue, PIXELS) == 0 &&
-           memcmp(a->index, b->index, PIXELS * sizeof *a->index) == 0;
+/* Says which ways do not answer a call as the library does. Answers how many, the earlier library not counted. */
+static int differing_ways(const char *name, int part, int count, const result_t results[WAYS]) {
+    int differing = 0;
+    for (int way = 1; way < count; way++) {
+        if (agree(part, &results[LIBRARY], &results[way]))
+            continue;
+        if (way == EARLIER) {
+            printf("%s, %s: the earlier library answers otherwise\n", name, parts[part]);
+        } else {
+            printf("%s, %s: library and %s differ\n", name, parts[part], ways[way]);
+            differing++;
+        }
+    }
+    return differing;
 }
 
-static void print_rows(const char *name, int count, double times[PARTS][WAYS]) {
+/* A map with a gap is compared with the library's own at gap 0 too. */
+static void print_rows(const char *name, uint32_t neighbours, double times[PARTS][WAYS]) {
     for (int part = 0; part < PARTS; part++) {
         double *t = times[part];
         printf("%-13s %-8s %9.1f %9.1f %9.1f   %8.2f %8.2f", name, parts[part], t[LIBRARY], t[FLOOD], t[UNION],
                t[LIBRARY] / t[FLOOD], t[LIBRARY] / t[UNION]);
-        if (count > EARLIER)
+        if (gaps[part] > 0)
+            printf(" %8.2f", t[LIBRARY] / times[MAP][LIBRARY]);
+        else
+            printf(" %8s", "-");
+        if (ways_with(neighbours, part) > EARLIER)
             printf(" %9.1f %9.2f", t[EARLIER], t[LIBRARY] / t[EARLIER]);
         putchar('\n');
     }
@@ -82,38 +104,35 @@ static void print_rows(const char *name, int count, double times[PARTS][WAYS]) {
 /* All ways and parts on one picture; the time of the library's map call, below 0 if the ways differ. */
 static double run_picture(const char *name, uint32_t attribute, uint32_t neighbours, int runs, result_t results[WAYS]) {
     picture_t picture;
-    int count = ways_with(neighbours);
+    int differing = 0;
     double times[PARTS][WAYS];
     if (!picture_make(&picture, name, SIDE, SIDE))
         exit(2);
     picture.neighbours = neighbours;
     for (int run = 0; run < runs; run++)
-        for (int part = 0; part < PARTS; part++)
+        for (int part = 0; part < PARTS; part++) {
+            int count = ways_with(neighbours, part);
             for (int k = 0; k < count; k++) {
                 int way = (run + k) % count;
                 double time = timed(way, part, &picture, attribute, &results[way]);
                 if (run == 0 || time < times[part][way])
                     times[part][way] = time;
             }
-    free(picture.greys);
-    print_rows(name, count, times);
-    for (int way = 1; way < EARLIER; way++)
-        if (!agree(&results[0], &results[way])) {
-            printf("%s: library and %s differ\n", name, ways[way]);
-            return -1;
+            if (run == runs - 1)
+                differing += differing_ways(name, part, count, results);
         }
-    if (count > EARLIER && !agree(&results[0], &results[EARLIER]))
-        printf("%s: the earlier library answers otherwise\n", name);
-    return times[MAP][LIBRARY];
+    free(picture.greys);
+    print_rows(name, neighbours, times);
+    return differing ? -1 : times[MAP][LIBRARY];
 }
 
 /* All pictures with one number of neighbours. Answers on how many the ways differ. */
 static int run_table(uint32_t attribute, uint32_t neighbours, int runs, result_t results[WAYS]) {
     int differing = 0;
-    printf("%d pixels, %u neighbours, %s, opening at %d, map with %d steps; ms, least of %d\n", PIXELS, (unsigned)neighbours,
+    printf("%d pixels, %u neighbours, %s, opening at %d, map with %d steps and at a gap; ms, least of %d\n", PIXELS, (unsigned)neighbours,
            attributes[attribute - 1], THRESHOLD, STEPS, runs);
-    printf("%-13s %-8s %9s %9s %9s   %8s %8s", "picture", "call", "library", "flooding", "union", "to flood", "to union");
-    puts(ways_with(neighbours) > EARLIER ? "   earlier  to that" : "");
+    printf("%-13s %-8s %9s %9s %9s   %8s %8s %8s", "picture", "call", "library", "flooding", "union", "to flood", "to union", "to gap 0");
+    puts(ways_with(neighbours, BUILD) > EARLIER ? "   earlier  to that" : "");
     for (int k = 0; k < KINDS; k++) {
         double time = run_picture(kinds[k], attribute, neighbours, runs, results);
         differing += time < 0;

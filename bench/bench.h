@@ -7,13 +7,14 @@
 #include <stdint.h>
 
 enum { AREA = 1, HEIGHT = 2, WIDTH = 3, FRAME = 1048577 };
-enum { BUILD, OPENING, MAP, PARTS };
+enum { BUILD, OPENING, MAP, MAP_4, MAP_256, PARTS };
 enum { STEPS = 256, THRESHOLD = 40, SIDE = 1024, PIXELS = SIDE * SIDE, KINDS = 6 };
 
-/* What every call is given, once steps_make is called, the kinds of pictures, and the calls' names. */
+/* What every call is given, once steps_make is called, the kinds of pictures, and the calls' names and the gaps of the maps. */
 extern uint32_t steps[STEPS];
 extern const char *const kinds[KINDS];
 extern const char *const parts[PARTS];
+extern const uint32_t gaps[PARTS];
 
 void steps_make(void);
 
@@ -24,12 +25,12 @@ typedef struct {
     uint32_t neighbours; /* 4 or 8 */
 } picture_t;
 
-/* What a call leaves. */
+/* What a call leaves, and its answer. */
 typedef struct {
     uint32_t *ws;
     uint8_t *output, *residue;
     uint16_t *index;
-    uint64_t nodes;
+    uint64_t answer;
 } result_t;
 
 /* Memory for what a call leaves, touched. */
@@ -64,8 +65,8 @@ void c_open(record_fn *record, const picture_t *picture, uint32_t attribute, uin
 void clear(const picture_t *picture, uint32_t nodes, uint32_t *ws);
 
 /* The maps: after the flood by the numbers of the nodes, after union-find by the list of the representatives. */
-typedef void map_fn(const picture_t *picture, uint32_t attribute, const uint32_t *steps, size_t count, uint32_t *ws, uint8_t *residue,
-                    uint16_t *index);
+typedef void map_fn(const picture_t *picture, uint32_t attribute, const uint32_t *steps, size_t count, uint32_t gap, uint32_t *ws,
+                    uint8_t *residue, uint16_t *index);
 
 map_fn flood_map, join_map;
 
@@ -109,20 +110,27 @@ static inline uint32_t measure(uint32_t attribute, uint32_t word) {
 static inline uint32_t choose(uint32_t test, uint32_t a, uint32_t b) { return b ^ ((a ^ b) & -test); }
 
 /*
- * What a node that falls at place k of `count` steps holds, from what its parent holds, in one word: its run, the place and its running
- * fall, 0 where it falls at none; and its pair, the index less 1 and the largest residue, 0 where that is 0.
+ * What the node k holds, from what its parent holds, in two words. Its run is place x 65536 + own: the place at which it falls, 512 where it
+ * falls at none of the `count` steps, and own is end x 256 + total, where end is the place of the run's last residue. Its pair is the own of
+ * the run of largest total, 0 for none. It joins its parent's run if the parent falls at most the gap later. The last two conditionals must
+ * not be branches: written so, they are conditional moves.
  */
-static inline uint32_t settled(uint32_t count, uint32_t k, uint32_t fall, uint32_t above) {
-    if (k == count)
-        return 0;
-    fall += choose(above >> 24 == k, above >> 16 & 255, 0);
-    uint32_t run = k << 8 | fall, pair = above & 65535;
-    return run << 16 | choose((pair & 255) < fall, run, pair);
+static inline void settle(uint32_t count, uint32_t gap, uint32_t place, uint32_t fall, uint32_t k, uint32_t up, uint32_t *runs,
+                          uint32_t *pairs) {
+    if (place == count) {
+        runs[k] = 512 << 16;
+        pairs[k] = 0;
+        return;
+    }
+    uint32_t above = runs[up], pair = pairs[up];
+    uint32_t own = (above >> 16 <= place + gap ? above & 65535 : place << 8) + fall;
+    runs[k] = place << 16 | own;
+    pairs[k] = (pair & 255) < (own & 255) ? own : pair;
 }
 
-static inline void put_maps(uint32_t word, uint8_t *residue, uint16_t *index) {
-    *residue = word & 255;
-    *index = ((word & 65535) + 255) >> 8;
+static inline void put_maps(uint32_t pair, uint8_t *residue, uint16_t *index) {
+    *residue = pair & 255;
+    *index = (pair + 255) >> 8;
 }
 
 #endif

@@ -8,7 +8,8 @@
 
 uint32_t steps[STEPS];
 const char *const kinds[KINDS] = {"floc", "noise", "smooth", "ramp", "flat", "checkerboard"};
-const char *const parts[PARTS] = {"build", "opening", "map"};
+const char *const parts[PARTS] = {"build", "opening", "map", "gap 4", "gap 256"};
+const uint32_t gaps[PARTS] = {[MAP_4] = 4, [MAP_256] = 256};
 
 void steps_make(void) {
     for (uint32_t i = 0; i < STEPS; i++)

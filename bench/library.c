@@ -11,6 +11,6 @@ uint64_t LIBRARY_CALL(int part, const picture_t *p, uint32_t attribute, result_t
         return teldruf_build(p->greys, n, p->width, p->height, attribute, p->neighbours, r->ws, words);
     if (part == OPENING)
         return teldruf_open(p->greys, n, p->width, p->height, attribute, p->neighbours, THRESHOLD, r->ws, words, r->output, n);
-    return teldruf_map(p->greys, n, p->width, p->height, attribute, p->neighbours, steps, STEPS, r->ws, words, r->residue, n,
-                       r->index, n);
+    return teldruf_map(p->greys, n, p->width, p->height, attribute, p->neighbours, steps, STEPS, gaps[part], r->ws, words, r->residue,
+                       n, r->index, n);
 }

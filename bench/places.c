@@ -1,6 +1,7 @@
 /*
  * Two libraries, each at four places of the program, called in turn on pictures of 1,048,576 pixels by area. Prints for each call the ratio
- * of their times, each the mean over its places of the median of the rounds, and the least and the largest ratio of two places.
+ * of their times, each the mean over its places of the median of the rounds, and the least and the largest ratio of two places; and for a
+ * map with a gap the same against the map at gap 0, both of the later library.
  *
  *   places [ROUNDS] [4|8]
  */
@@ -10,10 +11,16 @@
 #include <stdlib.h>
 
 enum { PLACES = 4, MOST_ROUNDS = 1001 };
+enum { BEFORE, LIBRARY };
 
 call_fn before_0, before_16, before_32, before_48, library_0, library_16, library_32, library_48;
 
 static call_fn *const calls[2][PLACES] = {{before_0, before_16, before_32, before_48}, {library_0, library_16, library_32, library_48}};
+
+/* What is measured, and what it is compared with. */
+typedef struct {
+    int library, part;
+} side_t;
 
 static double times[2][PLACES][MOST_ROUNDS];
 
@@ -22,19 +29,36 @@ static int rising(const void *a, const void *b) {
     return (x > y) - (x < y);
 }
 
-static void print_ratios(const char *kind, int part, int rounds) {
+static void print_ratios(const char *kind, int part, int rounds, const char *other) {
     double mean[2] = {0, 0}, least[2], largest[2];
-    for (int library = 0; library < 2; library++)
+    for (int side = 0; side < 2; side++)
         for (int place = 0; place < PLACES; place++) {
-            double *t = times[library][place];
+            double *t = times[side][place];
             qsort(t, rounds, sizeof *t, rising);
             double median = t[rounds / 2];
-            mean[library] += median / PLACES;
-            least[library] = place == 0 || median < least[library] ? median : least[library];
-            largest[library] = place == 0 || median > largest[library] ? median : largest[library];
+            mean[side] += median / PLACES;
+            least[side] = place == 0 || median < least[side] ? median : least[side];
+            largest[side] = place == 0 || median > largest[side] ? median : largest[side];
         }
-    printf("%-13s %-8s %6.2f ms %6.2f before   %.3f (%.3f to %.3f)\n", kind, parts[part], mean[1], mean[0], mean[1] / mean[0],
+    printf("%-13s %-8s %6.2f ms %6.2f %-8s   %.3f (%.3f to %.3f)\n", kind, parts[part], mean[1], mean[0], other, mean[1] / mean[0],
            least[1] / largest[0], largest[1] / least[0]);
+}
+
+/* The second side against the first. */
+static void compare(const picture_t *picture, const side_t sides[2], int rounds, const char *other, result_t *result) {
+    for (int round = 0; round < rounds; round++)
+        for (int k = 0; k < 2 * PLACES; k++) {
+            int which = (k + round) % (2 * PLACES), place = which / 2;
+            side_t side = sides[which % 2];
+            double start = milliseconds();
+            uint64_t answer = calls[side.library][place](side.part, picture, AREA, result);
+            times[which % 2][place][round] = milliseconds() - start;
+            if (answer >> 32 != 0) {
+                fprintf(stderr, "places: a call was refused\n");
+                exit(2);
+            }
+        }
+    print_ratios(picture->name, sides[1].part, rounds, other);
 }
 
 int main(int count, char **words) {
@@ -52,18 +76,10 @@ int main(int count, char **words) {
             return 2;
         picture.neighbours = neighbours;
         for (int part = 0; part < PARTS; part++) {
-            for (int round = 0; round < rounds; round++)
-                for (int k = 0; k < 2 * PLACES; k++) {
-                    int which = (k + round) % (2 * PLACES);
-                    double start = milliseconds();
-                    uint64_t answer = calls[which % 2][which / 2](part, &picture, AREA, &result);
-                    times[which % 2][which / 2][round] = milliseconds() - start;
-                    if (answer >> 32 != 0) {
-                        fprintf(stderr, "places: a call was refused\n");
-                        return 2;
-                    }
-                }
-            print_ratios(kinds[kind], part, rounds);
+            if (part < BEFORE_PARTS)
+                compare(&picture, (side_t[]){{BEFORE, part}, {LIBRARY, part}}, rounds, "before", &result);
+            if (gaps[part] > 0)
+                compare(&picture, (side_t[]){{LIBRARY, MAP}, {LIBRARY, part}}, rounds, "at gap 0", &result);
         }
         free(picture.greys);
     }

@@ -1,6 +1,6 @@
 /*
- * Each call of the library once, on a row of five pixels in a ring, so that only the root touches the frame: what a host in C lends, and
- * what it finds afterwards. Prints the picture that it reads, its tree, an opening, the maps, and a refusal. examples/run holds what is
+ * Each call of the library, on a row of five pixels in a ring, so that only the root touches the frame: what a host in C lends, and what it
+ * finds afterwards. Prints the picture that it reads, its tree, an opening, the maps at two gaps, and refusals. examples/run holds what is
  * printed to calls.txt.
  */
 #include "teldruf.h"
@@ -28,6 +28,11 @@ static void words(const char *name, const uint32_t *entries, size_t count) {
     printf("\n");
 }
 
+static void refused(uint64_t answer) {
+    uint32_t cause = teldruf_cause(answer);
+    printf("refused %u: %s\n", (unsigned)cause, teldruf_cause_text(cause));
+}
+
 int main(void) {
     size_t file_len = sizeof file - 1; /* without the 0 that ends a string */
     uint32_t head[4], workspace[TELDRUF_WORDS_A_PIXEL * N];
@@ -53,21 +58,25 @@ int main(void) {
     printf("open %u\n", (unsigned)teldruf_cause(opened));
     bytes("opened", output, N);
 
-    uint64_t mapped = teldruf_map(picture, N, head[0], head[1], TELDRUF_AREA, TELDRUF_CORNERS, steps, 4, workspace,
-                                  TELDRUF_WORDS_A_PIXEL * N, residue, N, index, N);
-    printf("map %u\n", (unsigned)teldruf_cause(mapped));
-    bytes("residue", residue, N);
-    printf("index");
-    for (size_t p = 0; p < N; p++)
-        printf(" %u", (unsigned)index[p]);
-    printf("\n");
+    for (uint32_t gap = 0; gap <= 2; gap += 2) {
+        uint64_t mapped = teldruf_map(picture, N, head[0], head[1], TELDRUF_AREA, TELDRUF_CORNERS, steps, 4, gap, workspace,
+                                      TELDRUF_WORDS_A_PIXEL * N, residue, N, index, N);
+        printf("map %u at gap %u\n", (unsigned)teldruf_cause(mapped), (unsigned)gap);
+        bytes("residue", residue, N);
+        printf("index");
+        for (size_t p = 0; p < N; p++)
+            printf(" %u", (unsigned)index[p]);
+        printf("\n");
+    }
 
     uint64_t written = teldruf_write_pgm(output, N, head[0], head[1], head[2], buffer, sizeof buffer);
     printf("written %u\n", (unsigned)written);
     bytes("file", buffer, (size_t)written);
 
-    uint32_t cause =
-        teldruf_cause(teldruf_build(picture, N, head[0], head[1], TELDRUF_AREA, 5, workspace, TELDRUF_WORDS_A_PIXEL * N));
-    printf("refused %u: %s\n", (unsigned)cause, teldruf_cause_text(cause));
+    refused(teldruf_build(picture, N, head[0], head[1], TELDRUF_AREA, 5, workspace, TELDRUF_WORDS_A_PIXEL * N));
+    /* The first cause in the header's order decides: no steps, a gap that is too large, a workspace that is too short. */
+    for (int right = 0; right < 3; right++)
+        refused(teldruf_map(picture, N, head[0], head[1], TELDRUF_AREA, TELDRUF_EDGES, steps, right > 0 ? 4 : 0,
+                            right > 1 ? TELDRUF_MOST_GAP : TELDRUF_MOST_GAP + 1, workspace, N, residue, N, index, N));
     return 0;
 }

@@ -44,6 +44,7 @@ PARENTS, ATTRIBUTES, NODES = ringed(0, [0, 10, 0, 10, 0]), [FRAME] + ringed(0, [
 REPRESENTATIVES = [0, 10, 9, 11]
 OPENED_AT_2 = bytes(ringed(10, [10, 20, 20, 20, 10]))
 RESIDUE, INDEX = bytes(ringed(0, [0, 10, 10, 30, 0])), ringed(0, [0, 4, 4, 2, 0])
+JOINED_RESIDUE, JOINED_INDEX = bytes(ringed(0, [0, 20, 10, 40, 0])), ringed(0, [0, 4, 4, 4, 0])  # at a gap of 2 or more
 
 # Two bright pixels that share only a corner, in a ring, and for each number of neighbours the tree, the opening at 2 and the maps at the
 # step 2.
@@ -61,6 +62,25 @@ BY_NEIGHBOURS = {
         (bytes(16), [0] * 16),
     ),
 }
+
+
+def index_bytes(index):
+    """An index map as the hosts write it."""
+    return b"".join(i.to_bytes(2, "big") for i in index)
+
+
+def largest_run(residues, gap):
+    """The largest total of a run of residues that are not 0, at most the gap apart, and the last place, from 1, of the last such run."""
+    runs, last = [], None
+    for place, residue in enumerate(residues, 1):
+        if residue == 0:
+            continue
+        if last is not None and place - last <= gap:
+            runs[-1] = runs[-1][0] + residue, place
+        else:
+            runs.append((residue, place))
+        last = place
+    return max(runs, default=(0, 0))
 
 
 class Module(unittest.TestCase):
@@ -117,6 +137,25 @@ class Module(unittest.TestCase):
                 self.assertEqual(teldruf.open(CORNERS, 2, **words).raster, opened)
                 self.assertEqual((mapped.residue, list(mapped.index)), maps)
 
+    def test_a_gap_joins_falls(self):
+        for words in {}, {"gap": 0}, {"gap": 1}, {"gap": 2}, {"gap": 3}, {"gap": 256}:
+            maps = teldruf.map(ROW, [1, 2, 3, 4], **words)
+            expected = (JOINED_RESIDUE, JOINED_INDEX) if words.get("gap", 0) >= 2 else (RESIDUE, INDEX)
+            self.assertEqual((maps.residue, list(maps.index)), expected)
+
+    def test_maps_at_a_gap_are_the_largest_runs_between_openings(self):
+        random = Random(19)
+        for _ in range(100):
+            width, height, count = random.randint(4, 12), random.randint(4, 12), random.randint(1, 12)
+            rows = [random.choices(range(1, 7), k=width) for _ in range(height)]
+            picture = Picture(width + 2, height + 2, 255, bytes(ringed(0, *rows)))
+            words = {"attribute": random.randint(1, 3), "neighbours": random.choice((4, 8))}
+            steps, gap = sorted(random.sample(range(1, 20), count)), random.choice((0, 1, 2, 3, 5, 256))
+            openings = [picture.raster] + [teldruf.open(picture, step, **words).raster for step in steps]
+            falls = [[before - after for before, after in zip(*greys)] for greys in zip(openings, openings[1:])]
+            maps = teldruf.map(picture, steps, gap=gap, **words)
+            self.assertEqual(list(zip(maps.residue, maps.index)), [largest_run(residues, gap) for residues in zip(*falls)])
+
     def test_refusals_have_number_and_words(self):
         long = bytes(1048577)
         for number, call in [
@@ -132,6 +171,9 @@ class Module(unittest.TestCase):
             (4, lambda: teldruf.open(ROW, 1048578)),
             (4, lambda: teldruf.map(ROW, [])),
             (4, lambda: teldruf.map(ROW, [2, 2])),
+            (4, lambda: teldruf.map(ROW, [0], gap=257)),
+            (19, lambda: teldruf.map(ROW, [1], gap=257)),
+            (19, lambda: teldruf.map(ROW, [1], gap=2 ** 32 - 1)),
             (8, lambda: teldruf.read(b"")),
             (9, lambda: teldruf.read(FILE[:6])),
             (10, lambda: teldruf.write(ROW._replace(maximum=256))),
@@ -154,6 +196,7 @@ class Module(unittest.TestCase):
             lambda bad: teldruf.open(ROW, 1, neighbours=bad),
             lambda bad: teldruf.map(ROW, [bad]),
             lambda bad: teldruf.map(ROW, [1], neighbours=bad),
+            lambda bad: teldruf.map(ROW, [1], gap=bad),
         ]
         for place, call in enumerate(places):
             for bad, kind in (-1, ValueError), (2 ** 32 + 5, ValueError), (True, TypeError), (5.0, TypeError), (None, TypeError):
@@ -247,9 +290,15 @@ class Hosts(unittest.TestCase):
 
     def test_maps(self):
         for host in HOSTS:
-            subprocess.run([*host, self.picture, *self.out, "area", "1", "2", "3", "4"], check=True)
-            index = b"".join(i.to_bytes(2, "big") for i in INDEX)
-            self.assertEqual(self.contents(), [b"P5\n7 3\n255\n" + RESIDUE, b"P5\n7 3\n256\n" + index])
+            for words, residue, index in [
+                ([], RESIDUE, INDEX),
+                (["gap=0"], RESIDUE, INDEX),
+                (["neighbours=8", "gap=1"], RESIDUE, INDEX),
+                (["gap=2"], JOINED_RESIDUE, JOINED_INDEX),
+                (["neighbours=4", "gap=0000000256"], JOINED_RESIDUE, JOINED_INDEX),
+            ]:
+                subprocess.run([*host, self.picture, *self.out, "area", *words, "1", "2", "3", "4"], check=True)
+                self.assertEqual(self.contents(), [b"P5\n7 3\n255\n" + residue, b"P5\n7 3\n256\n" + index_bytes(index)])
 
     def test_corners_join_with_8_neighbours(self):
         picture = self.file("corners.pgm", CORNERS_FILE)
@@ -257,18 +306,17 @@ class Hosts(unittest.TestCase):
             for word, neighbours in ([], 4), (["neighbours=4"], 4), (["neighbours=8"], 8), (["neighbours=0000000008"], 8):
                 subprocess.run([*host, picture, *self.out, "area", *word, "2"], check=True)
                 residue, index = BY_NEIGHBOURS[neighbours][2]
-                index = b"".join(i.to_bytes(2, "big") for i in index)
-                self.assertEqual(self.contents(), [b"P5\n4 4\n255\n" + residue, b"P5\n4 4\n256\n" + index])
+                self.assertEqual(self.contents(), [b"P5\n4 4\n255\n" + residue, b"P5\n4 4\n256\n" + index_bytes(index)])
 
-    def test_hosts_agree_on_a_basin_with_8_neighbours(self):
+    def test_hosts_agree_on_a_basin_with_8_neighbours_and_with_a_gap(self):
         found = []
         for host in HOSTS:
-            for neighbours in 4, 8:
-                words = "height", f"neighbours={neighbours}", "2", "4", "8", "16"
+            for named in ["neighbours=4"], ["neighbours=8"], ["neighbours=8", "gap=2"]:
+                words = "height", *named, "2", "4", "8", "16"
                 subprocess.run([*host, os.path.join(FOLDER, "basin.pgm"), *self.out, *words], check=True)
                 found.append(self.contents())
-        self.assertEqual(found[:2], found[2:])
-        self.assertTrue(all(four != eight for four, eight in zip(*found[:2])))
+        self.assertEqual(found[:3], found[3:])
+        self.assertTrue(all(len(set(maps)) == 3 for maps in zip(*found[:3])))
 
     def test_every_index_is_kept(self):
         picture = self.file("long.pgm", b"P5 258 3 9\n" + bytes(258) + b"\0" + b"\x09" * 255 + b"\0\0" + bytes(258))
@@ -283,10 +331,16 @@ class Hosts(unittest.TestCase):
         self.fails(2, "'depth' is no attribute", self.picture, *self.out, "depth", "1")
         for number in "", "8x", "4294967304", "-8", " 8", "8 ", "0x8", "00000000008", "four":
             self.fails(2, f"'neighbours={number}' names no neighbours", self.picture, *self.out, "area", f"neighbours={number}", "1")
-        for words in ("1", "neighbours=8"), ("neighbours=8", "neighbours=8", "1"), ("neighbours", "1"), ("Neighbours=8", "1"):
+        for number in "", "2x", "4294967296", "-2", "+2", " 2", "2 ", "0x2", "00000000002", "2.0", "two":
+            for named in [], ["neighbours=8"]:
+                self.fails(2, f"'gap={number}' names no gap", self.picture, *self.out, "area", *named, f"gap={number}", "1")
+        for words in [
+            ("1", "neighbours=8"), ("neighbours=8", "neighbours=8", "1"), ("neighbours", "1"), ("Neighbours=8", "1"),
+            ("1", "gap=2"), ("gap=2", "gap=2", "1"), ("gap=2", "neighbours=8", "1"), ("gap", "1"), ("Gap=2", "1"),
+        ]:
             self.fails(2, "' is no step", self.picture, *self.out, "area", *words)
         for host in HOSTS:
-            for words in (), (*self.out, "area"), (*self.out, "area", "neighbours=8"):
+            for words in (), (*self.out, "area"), (*self.out, "area", "neighbours=8"), (*self.out, "area", "gap=2"):
                 ended = subprocess.run([*host, self.picture, *words], capture_output=True, text=True)
                 self.assertEqual(ended.returncode, 2)
                 self.assertIn("usage: ", ended.stderr)
@@ -299,6 +353,10 @@ class Hosts(unittest.TestCase):
             (11, ("1",), FILE[:-1]),
             (17, ("neighbours=5", "1"), FILE),
             (17, ("neighbours=4294967295", "0"), FILE),
+            (17, ("neighbours=5", "gap=257", "1"), FILE),
+            (4, ("gap=257", "0"), FILE),
+            (19, ("gap=257", "1"), FILE),
+            (19, ("gap=4294967295", "1"), FILE),
         ]:
             picture = self.file("refused.pgm", contents)
             self.fails(1, f"refused {number}: {teldruf.cause_text(number)}", picture, *self.out, "area", *words)
@@ -349,12 +407,15 @@ class Colours(unittest.TestCase):
             command = [sys.executable, os.path.join(HERE, "index_to_png.py"), os.path.join(FOLDER, "index.pgm"), png, "area"]
             steps = [str(2 ** k) for k in range(10)]
             pictures = set()
-            for words in [], ["neighbours=4"], ["neighbours=8"], ["neighbours=08"]:
+            for words in [], ["neighbours=4"], ["neighbours=8"], ["neighbours=08"], ["gap=0"], ["neighbours=8", "gap=0256"]:
                 subprocess.run([*command, *words, *steps], check=True)
                 with open(png, "rb") as file:
                     pictures.add(file.read())
             self.assertEqual(len(pictures), 1)
-            for words in ["neighbours=8"], ["neighbours=5", *steps], ["neighbours=8x", *steps], [*steps, "neighbours=8"]:
+            for words in [
+                ["neighbours=8"], ["neighbours=5", *steps], ["neighbours=8x", *steps], [*steps, "neighbours=8"],
+                ["gap=2"], ["gap=257", *steps], ["gap=2x", *steps], ["gap=2", "neighbours=8", *steps], [*steps, "gap=2"],
+            ]:
                 self.assertEqual(subprocess.run([*command, *words], capture_output=True).returncode, 2)
 
 

@@ -1,7 +1,7 @@
 /*
  * Maps a picture of any size within the bounds: the residue map and the index map of a PGM file, as PGM files.
  *
- *   host PICTURE RESIDUE INDEX area|height|width [neighbours=4|8] STEP..
+ *   host PICTURE RESIDUE INDEX area|height|width [neighbours=4|8] [gap=GAP] STEP..
  *
  * The residue map has a byte a sample, the index map two, the high one first, and the maximum 256, so that every index is kept. The
  * exit status is 0 if both maps are written, 1 if the library refuses or a file cannot be read or written, 2 if the words are wrong.
@@ -114,7 +114,7 @@ static uint32_t attribute_named(const char *word) {
     fail(WRONG_USE, "'%s' is no attribute: area, height or width", word);
 }
 
-/* A number is 1 to 10 digits and nothing else, and has 32 bits; whether it is a step, or 4 or 8, the library judges. */
+/* A number is 1 to 10 digits and nothing else, and has 32 bits; whether it is a step, 4 or 8, or a gap, the library judges. */
 static int is_number(const char *word, uint32_t *number) {
     size_t digits = strspn(word, "0123456789");
     uint64_t value = 0;
@@ -131,25 +131,35 @@ static uint32_t step_of(const char *word) {
     return step;
 }
 
-static const char naming[] = "neighbours=";
+static const char naming_neighbours[] = "neighbours=", naming_gap[] = "gap=";
 
-static int names_neighbours(const char *word) {
-    return strncmp(word, naming, strlen(naming)) == 0;
+/* Whether there is a word at this place, and it starts so. */
+static int starts(int count, char **words, int place, const char *start) {
+    return count > place && strncmp(words[place], start, strlen(start)) == 0;
 }
 
 static uint32_t neighbours_named(const char *word) {
     uint32_t neighbours;
-    if (!is_number(word + strlen(naming), &neighbours))
+    if (!is_number(word + strlen(naming_neighbours), &neighbours))
         fail(WRONG_USE, "'%s' names no neighbours: neighbours=4 or neighbours=8", word);
     return neighbours;
 }
 
+static uint32_t gap_named(const char *word) {
+    uint32_t gap;
+    if (!is_number(word + strlen(naming_gap), &gap))
+        fail(WRONG_USE, "'%s' names no gap: gap=0 to gap=256", word);
+    return gap;
+}
+
 int main(int count, char **words) {
-    int named = count > 5 && names_neighbours(words[5]), first = 5 + named;
+    int second = 5 + starts(count, words, 5, naming_neighbours);   /* where a gap may be named */
+    int first = second + starts(count, words, second, naming_gap); /* where the steps start */
     if (count <= first)
-        fail(WRONG_USE, "usage: PICTURE RESIDUE INDEX area|height|width [neighbours=4|8] STEP..");
+        fail(WRONG_USE, "usage: PICTURE RESIDUE INDEX area|height|width [neighbours=4|8] [gap=GAP] STEP..");
     uint32_t attribute = attribute_named(words[4]);
-    uint32_t neighbours = named ? neighbours_named(words[5]) : TELDRUF_EDGES;
+    uint32_t neighbours = second > 5 ? neighbours_named(words[5]) : TELDRUF_EDGES;
+    uint32_t gap = first > second ? gap_named(words[second]) : 0;
     size_t steps_len = (size_t)(count - first);
     uint32_t *steps = lend(steps_len, sizeof *steps);
     for (size_t i = 0; i < steps_len; i++)
@@ -160,7 +170,7 @@ int main(int count, char **words) {
     uint32_t *workspace = lend(workspace_len, sizeof *workspace);
     uint8_t *residue = lend(n, 1);
     uint16_t *index = lend(n, sizeof *index);
-    accepted(teldruf_map(picture.greys, n, picture.width, picture.height, attribute, neighbours, steps, steps_len, workspace,
+    accepted(teldruf_map(picture.greys, n, picture.width, picture.height, attribute, neighbours, steps, steps_len, gap, workspace,
                          workspace_len, residue, n, index, n),
              words[1]);
     write_residue(words[2], &picture, residue);

@@ -1,7 +1,7 @@
 """Maps a picture as host.c does, through the module python/teldruf.py and a shared library that is made from the static one:
 
     gcc -shared -o libteldruf.so -Wl,--whole-archive target/staticlib/libteldruf.a -Wl,--no-whole-archive
-    python3 examples/host.py ./libteldruf.so PICTURE RESIDUE INDEX area|height|width [neighbours=4|8] STEP..
+    python3 examples/host.py ./libteldruf.so PICTURE RESIDUE INDEX area|height|width [neighbours=4|8] [gap=GAP] STEP..
 
 The residue map has a byte a sample, the index map two, the high one first, and the maximum 256, so that every index is kept. The
 exit status is 0 if both maps are written, 1 if the library refuses or a file cannot be read or written, 2 if the words are wrong.
@@ -18,7 +18,7 @@ REFUSED, WRONG_USE = 1, 2
 MOST_PIXELS, MOST_INDEX = 1048576, 256
 # The largest file that is read: beside the largest raster there is room for a header with a mebibyte of comments.
 MOST_FILE = 2 * MOST_PIXELS
-NAMING = "neighbours="
+NAMING_NEIGHBOURS, NAMING_GAP = "neighbours=", "gap="
 
 
 class Failure(Exception):
@@ -62,7 +62,7 @@ def index_file(picture, index):
 
 
 def is_number(word):
-    """A number is 1 to 10 digits and nothing else, and has 32 bits; whether it is a step, or 4 or 8, the library judges."""
+    """A number is 1 to 10 digits and nothing else, and has 32 bits; whether it is a step, 4 or 8, or a gap, the library judges."""
     return re.fullmatch("[0-9]{1,10}", word) is not None and int(word) < 2 ** 32
 
 
@@ -72,22 +72,35 @@ def step_of(word):
     return int(word)
 
 
+def starts(words, place, start):
+    """Whether there is a word at this place, and it starts so."""
+    return len(words) > place and words[place].startswith(start)
+
+
 def neighbours_named(word):
-    number = word[len(NAMING):]
+    number = word[len(NAMING_NEIGHBOURS):]
     if not is_number(number):
         raise Failure(WRONG_USE, f"'{word}' names no neighbours: neighbours=4 or neighbours=8")
     return int(number)
 
 
+def gap_named(word):
+    number = word[len(NAMING_GAP):]
+    if not is_number(number):
+        raise Failure(WRONG_USE, f"'{word}' names no gap: gap=0 to gap=256")
+    return int(number)
+
+
 def main(words):
-    named = len(words) > 5 and words[5].startswith(NAMING)
-    first = 5 + named
+    second = 5 + starts(words, 5, NAMING_NEIGHBOURS)  # where a gap may be named
+    first = second + starts(words, second, NAMING_GAP)  # where the steps start
     if len(words) <= first:
-        raise Failure(WRONG_USE, "usage: LIBRARY PICTURE RESIDUE INDEX area|height|width [neighbours=4|8] STEP..")
+        raise Failure(WRONG_USE, "usage: LIBRARY PICTURE RESIDUE INDEX area|height|width [neighbours=4|8] [gap=GAP] STEP..")
     library, picture_name, residue_name, index_name, attribute = words[:5]
     if attribute not in teldruf.ATTRIBUTES:
         raise Failure(WRONG_USE, f"'{attribute}' is no attribute: area, height or width")
-    neighbours = neighbours_named(words[5]) if named else 4
+    neighbours = neighbours_named(words[5]) if second > 5 else 4
+    gap = gap_named(words[second]) if first > second else 0
     steps = [step_of(word) for word in words[first:]]
     try:
         teldruf.load(library)
@@ -96,7 +109,7 @@ def main(words):
     contents = read_file(picture_name)
     try:
         picture = teldruf.read(contents)
-        residue, index = teldruf.map(picture, steps, attribute, neighbours=neighbours)
+        residue, index = teldruf.map(picture, steps, attribute, neighbours=neighbours, gap=gap)
         residue_file = teldruf.write(picture._replace(maximum=255, raster=residue))
     except teldruf.Refused as refusal:
         raise Failure(REFUSED, f"{picture_name}: {refusal}")

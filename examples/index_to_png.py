@@ -1,8 +1,8 @@
 """Turns an index map, as the hosts write it, into a PNG file for people: a colour a step, and a legend that names the steps.
 
-    python3 examples/index_to_png.py INDEX.pgm INDEX.png area|height|width [neighbours=4|8] STEP..
+    python3 examples/index_to_png.py INDEX.pgm INDEX.png area|height|width [neighbours=4|8] [gap=GAP] STEP..
 
-The words after the files are those that the host was given; the neighbours change nothing here. A pixel without residue is dark
+The words after the files are those that the host was given; neighbours and gap change nothing here. A pixel without residue is dark
 grey, `none` in the legend. Up to 16 steps have a colour and a name each; more share a ramp of colours, of which the legend names
 the first and last step of each part.
 """
@@ -13,6 +13,7 @@ import sys
 from pgm_to_png import RGB, png, read_pgm, run, wrong_use
 
 MOST_INDEX = 256
+MOST_GAP = 256
 MOST_NAMES = 16
 LEAST_SIDE = 256  # a picture that is smaller both ways is magnified
 
@@ -124,8 +125,18 @@ def index_of(raster):
     return [high * 256 + low for high, low in zip(raster[::2], raster[1::2])]
 
 
+def first_step(words):
+    """Where the steps start: after neighbours and gap if they are named as a host can make a map with them."""
+    first = 3
+    if len(words) > first and re.fullmatch("neighbours=0{0,9}[48]", words[first]):
+        first += 1
+    if len(words) > first and re.fullmatch("gap=[0-9]{1,10}", words[first]) and int(words[first][4:]) <= MOST_GAP:
+        first += 1
+    return first
+
+
 def main(words):
-    first = 4 if len(words) > 3 and re.fullmatch("neighbours=0{0,9}[48]", words[3]) else 3  # no other word gives a map
+    first = first_step(words)
     if len(words) <= first or not all(word.isdecimal() for word in words[first:]) or words[2] not in ("area", "height", "width"):
         wrong_use(__doc__)
     width, height, raster = read_pgm(words[0], MOST_INDEX)

@@ -35,7 +35,8 @@ enum {
     TELDRUF_MAXIMUM = 10,
     TELDRUF_RASTER_LENGTH = 11,
     TELDRUF_SAMPLE = 12,
-    TELDRUF_NEIGHBOURS = 17
+    TELDRUF_NEIGHBOURS = 17,
+    TELDRUF_GAP = 19
 };
 
 /*
@@ -59,6 +60,7 @@ enum {
     TELDRUF_MOST_PIXELS = 1048576,
     TELDRUF_MOST_THRESHOLD = 1048577,
     TELDRUF_MOST_STEPS = 256,
+    TELDRUF_MOST_GAP = 256,
     TELDRUF_WORDS_A_PIXEL = 7
 };
 
@@ -98,6 +100,8 @@ static inline const char *teldruf_cause_text(uint32_t number) {
         return "a sample above the maximum";
     case TELDRUF_NEIGHBOURS:
         return "neighbourhood neither 4 nor 8";
+    case TELDRUF_GAP:
+        return "gap above 256";
     default:
         return "no cause of this library";
     }
@@ -142,16 +146,19 @@ uint64_t teldruf_open(const uint8_t *picture, size_t picture_len, uint32_t width
                       size_t output_len);
 
 /*
- * Gives the residue map and the index map of a picture for a list of 1 to 256 strictly rising steps, each from 1 to 1,048,577. Lent:
- * the picture, n bytes, and the steps, both only read; the workspace, exactly 7n words; the residue map, exactly n bytes; and the
- * index map, exactly n entries of 16 bits. The last three may hold anything. Accepted: the answer is 0, the residue map holds at
- * each pixel the largest fall from one opening with these neighbours to the next, the index map the largest place in the list, from
- * 1, of a step with that fall, or 0 where it is 0, and the workspace the record of the picture. Refused, in this order: 1, 2, 3, 17,
- * 4, 5, 6.
+ * Gives the residue map and the index map of a picture for a list of 1 to 256 strictly rising steps, each from 1 to 1,048,577, and
+ * a gap from 0 to 256. The residue of a step at a pixel is the fall from the opening before it (for the first, from the picture) to
+ * its own, with these neighbours. Two residues that are not 0, with only 0 between them, belong to one run if their places in the
+ * list differ by at most the gap, so that contrast that falls at several steps is added up; at gap 0 every residue is a run of its
+ * own. Lent: the picture, n bytes, and the steps, both only read; the workspace, exactly 7n words; the residue map, exactly n
+ * bytes; and the index map, exactly n entries of 16 bits. The last three may hold anything. Accepted: the answer is 0, the residue
+ * map holds at each pixel the largest total of a run, the index map the largest place in the list, from 1, of a residue that is not
+ * 0 in a run with that total, or 0 where it is 0, and the workspace the record of the picture. At gap 0 these are the largest
+ * residue and the largest place that has it. Refused, in this order: 1, 2, 3, 17, 4, 19, 5, 6.
  */
 uint64_t teldruf_map(const uint8_t *picture, size_t picture_len, uint32_t width, uint32_t height, uint32_t attribute,
-                     uint32_t neighbours, const uint32_t *steps, size_t steps_len, uint32_t *workspace, size_t workspace_len,
-                     uint8_t *residue, size_t residue_len, uint16_t *index, size_t index_len);
+                     uint32_t neighbours, const uint32_t *steps, size_t steps_len, uint32_t gap, uint32_t *workspace,
+                     size_t workspace_len, uint8_t *residue, size_t residue_len, uint16_t *index, size_t index_len);
 
 #ifdef __cplusplus
 }

@@ -6,6 +6,7 @@
 
 Neighbours are the 4 pixels that share an edge with a pixel; with neighbours=8 those that share a corner are neighbours too.
 What touches the first or last row or column has the size 1,048,577 by every attribute, so no threshold removes it.
+Blurred floc falls at several steps; with a gap above 0, falls at most so many places of the list apart are added up.
 
 A picture is a Picture, whose raster is bytes or another buffer of bytes (bytearray, memoryview, numpy array of uint8), or a buffer
 of bytes with rows and columns, such as a numpy array of two dimensions. Results are bytes or arrays, row by row; where the greys
@@ -46,6 +47,7 @@ _CAUSES = {
     11: "raster bytes not width x height",
     12: "a sample above the maximum",
     17: "neighbourhood neither 4 nor 8",
+    19: "gap above 256",
 }
 
 _MOST_PIXELS = 1048576
@@ -90,7 +92,8 @@ class Tree(NamedTuple):
 
 
 class Maps(NamedTuple):
-    """At each pixel the largest residue, and the largest place in the step list, from 1, that has it (0 where the residue is 0)."""
+    """At each pixel the largest residue, and the largest place in the step list, from 1, that has it (0 where the residue is 0). With a
+    gap above 0 the largest total of a run of residues, and the largest place of a residue that is not 0 in such a run."""
 
     residue: Any
     index: Any
@@ -135,14 +138,15 @@ def open(picture, threshold, attribute="area", *, neighbours=4):
     return opened if isinstance(picture, Picture) else opened.raster
 
 
-def map(picture, steps, attribute="area", *, neighbours=4):
+def map(picture, steps, attribute="area", *, neighbours=4, gap=0):
     """The Maps of a picture, residue and index, for strictly rising steps. An index is a place in the list: its size is
-    steps[index - 1]."""
+    steps[index - 1]. Two residues that are not 0, with only 0 between them, belong to one run if their places in the list differ by at
+    most the gap, 0 to 256."""
     picture, greys = _taken(picture)
     listed = array("I", [_word(step, "a step") for step in steps])
     workspace, residue, index = _workspace(greys), _entries("B", greys), _entries("H", greys)
     _call("map", *_lend(greys), picture.width, picture.height, _attribute(attribute), _neighbours(neighbours), *_lend(listed),
-          *_lend(workspace), *_lend(residue), *_lend(index))
+          _word(gap, "a gap"), *_lend(workspace), *_lend(residue), *_lend(index))
     return Maps(_like(picture.raster, residue), _like(picture.raster, index))
 
 
@@ -252,7 +256,7 @@ def load(path):
         "write_pgm": picture + [word] + run,
         "build": picture + [word, word] + run,
         "open": picture + [word, word, word] + run + run,
-        "map": picture + [word, word] + run + run + run + run,
+        "map": picture + [word, word] + run + [word] + run + run + run,
     }
     for name, arguments in signatures.items():
         try:
