@@ -1,8 +1,9 @@
-// Build, open and map on random pictures, under both neighbourhoods: accepted calls against the
-// definitions, refused ones against the causes, each cause alone and in pairs.
+// Build, open and map on random pictures, under both neighbourhoods, maps at gap 0 and at another:
+// accepted calls against the definitions, refused ones against the causes, each cause alone and in
+// pairs.
 
 use crate::causes::{refusal, Named, NEIGHBOURHOODS, ORDER};
-use crate::causes::{MOST_STEPS, MOST_THRESHOLD, WORDS_A_PIXEL};
+use crate::causes::{MOST_GAP, MOST_STEPS, MOST_THRESHOLD, WORDS_A_PIXEL};
 use crate::damage;
 use crate::definition::{Component, Levels, Picture, Record, CUT};
 use crate::fast::Forest;
@@ -11,6 +12,7 @@ use crate::lent::Lent;
 use crate::pictures;
 use crate::random::Random;
 use crate::report::{answer_fault, refused, Report};
+use crate::runs::Maps;
 
 /// What is named and lent in a call; each call takes its part of it.
 #[derive(Clone, Debug)]
@@ -18,11 +20,13 @@ pub struct Call {
     pub picture: Vec<u8>,
     pub numbers: Numbers,
     pub steps: Vec<u32>,
+    pub gap: u32,
     pub workspace: usize,
     pub outputs: [usize; 2],
 }
 
 impl Call {
+    /// At gap 0.
     pub fn good(picture: &Picture, attribute: u32, neighbours: u32, steps: Vec<u32>) -> Call {
         let n = picture.pixels();
         let numbers = Numbers {
@@ -35,11 +39,13 @@ impl Call {
             picture: picture.greys.clone(),
             numbers,
             steps,
+            gap: 0,
             workspace: WORDS_A_PIXEL * n,
             outputs: [n, n],
         }
     }
 
+    /// No gap; a map call names one besides.
     pub fn named<'a>(&'a self, steps: Option<&'a [u32]>, outputs: usize) -> Named<'a> {
         Named {
             width: self.numbers.width,
@@ -48,8 +54,16 @@ impl Call {
             attribute: self.numbers.attribute,
             neighbours: self.numbers.neighbours,
             steps,
+            gap: None,
             workspace: self.workspace,
             outputs: &self.outputs[..outputs],
+        }
+    }
+
+    pub fn named_map<'a>(&'a self, steps: &'a [u32]) -> Named<'a> {
+        Named {
+            gap: Some(self.gap),
+            ..self.named(Some(steps), 2)
         }
     }
 }
@@ -58,7 +72,8 @@ impl Call {
 pub trait Truth {
     fn record(&self, attribute: u32) -> Record;
     fn opening(&self, attribute: u32, threshold: u32) -> Vec<u8>;
-    fn maps(&self, attribute: u32, steps: &[u32]) -> (Vec<u8>, Vec<u16>);
+    /// At each gap.
+    fn maps(&self, attribute: u32, steps: &[u32], gaps: &[u32]) -> Vec<Maps>;
 }
 
 pub struct ByDefinition<'a> {
@@ -73,8 +88,8 @@ impl Truth for ByDefinition<'_> {
     fn opening(&self, attribute: u32, threshold: u32) -> Vec<u8> {
         self.levels.opening(attribute, threshold)
     }
-    fn maps(&self, attribute: u32, steps: &[u32]) -> (Vec<u8>, Vec<u16>) {
-        self.levels.maps(self.picture, attribute, steps)
+    fn maps(&self, attribute: u32, steps: &[u32], gaps: &[u32]) -> Vec<Maps> {
+        self.levels.maps(self.picture, attribute, steps, gaps)
     }
 }
 
@@ -85,8 +100,8 @@ impl Truth for Forest {
     fn opening(&self, attribute: u32, threshold: u32) -> Vec<u8> {
         Forest::opening(self, attribute, threshold)
     }
-    fn maps(&self, attribute: u32, steps: &[u32]) -> (Vec<u8>, Vec<u16>) {
-        Forest::maps(self, attribute, steps)
+    fn maps(&self, attribute: u32, steps: &[u32], gaps: &[u32]) -> Vec<Maps> {
+        Forest::maps(self, attribute, steps, gaps)
     }
 }
 
@@ -156,12 +171,14 @@ pub fn check_open(
     accepted.then(|| output.now().to_vec())
 }
 
-pub fn check_map(
+/// One map call: the cause due, or the workspace and both maps. Hands back the maps as they are
+/// then.
+fn check_one_map(
     report: &mut Report,
     random: &mut Random,
     call: &Call,
-    truth: &dyn Truth,
-) -> Option<(Vec<u8>, Vec<u16>)> {
+    outcome: Result<(&[u32], &Maps), u32>,
+) -> Maps {
     let picture = Lent::holding(random, &call.picture);
     let steps = Lent::holding(random, &call.steps);
     let mut workspace = Lent::dirty(random, call.workspace);
@@ -171,33 +188,67 @@ pub fn check_map(
         picture.now(),
         call.numbers,
         steps.now(),
+        call.gap,
         workspace.now_mut(),
         residue.now_mut(),
         index.now_mut(),
     );
-    let outcome = refusal(&call.named(Some(&call.steps), 2));
-    let attribute = call.numbers.attribute;
-    let accepted = outcome.is_ok();
-    let words = accepted.then(|| truth.record(attribute).workspace());
-    let (largest, at) = accepted.then(|| truth.maps(attribute, &call.steps)).unzip();
-    let answer_due = due(report, "map", outcome.map(|()| 0));
+    let (words, maps) = outcome.ok().unzip();
+    let answer_due = due(report, "map", outcome.map(|_| 0));
     let fault = first_fault([
         answer_fault(answer, answer_due),
         picture.fault("picture", None),
         steps.fault("steps", None),
-        workspace.fault("workspace", words.as_deref()),
-        residue.fault("residue", largest.as_deref()),
-        index.fault("index", at.as_deref()),
+        workspace.fault("workspace", words),
+        residue.fault("residue", maps.map(|(residue, _)| &residue[..])),
+        index.fault("index", maps.map(|(_, index)| &index[..])),
     ]);
     report.check(fault, || shown("map", call));
-    accepted.then(|| (residue.now().to_vec(), index.now().to_vec()))
+    (residue.now().to_vec(), index.now().to_vec())
+}
+
+pub fn check_map(
+    report: &mut Report,
+    random: &mut Random,
+    call: &Call,
+    truth: &dyn Truth,
+) -> Option<Maps> {
+    match refusal(&call.named_map(&call.steps)) {
+        Ok(()) => check_gaps(report, random, call, &[call.gap], truth).pop(),
+        Err(cause) => {
+            check_one_map(report, random, call, Err(cause));
+            None
+        }
+    }
+}
+
+/// A good map call at each of these gaps in turn; hands back all that was written.
+pub fn check_gaps(
+    report: &mut Report,
+    random: &mut Random,
+    call: &Call,
+    gaps: &[u32],
+    truth: &dyn Truth,
+) -> Vec<Maps> {
+    let attribute = call.numbers.attribute;
+    let words = truth.record(attribute).workspace();
+    let maps = truth.maps(attribute, &call.steps, gaps);
+    let mut call = call.clone();
+    let mut check = |(gap, maps): (&u32, &Maps)| {
+        call.gap = *gap;
+        check_one_map(report, random, &call, Ok((&words, maps)))
+    };
+    gaps.iter().zip(&maps).map(&mut check).collect()
 }
 
 pub fn shown(name: &str, call: &Call) -> String {
     if call.picture.len() > 400 {
         let (bytes, steps) = (call.picture.len(), call.steps.len());
-        let (numbers, lent) = (call.numbers, (call.workspace, call.outputs));
-        return format!("{name}: {bytes} bytes, {numbers:?}, {steps} steps, lent {lent:?}");
+        let (numbers, gap) = (call.numbers, call.gap);
+        let lent = (call.workspace, call.outputs);
+        return format!(
+            "{name}: {bytes} bytes, {numbers:?}, {steps} steps, gap {gap}, lent {lent:?}"
+        );
     }
     format!("{name}: {call:?}")
 }
@@ -236,6 +287,15 @@ pub fn step_list(random: &mut Random, attributes: &[u32]) -> Vec<u32> {
     steps
 }
 
+/// Any gap in its range; small ones and the ends are frequent.
+pub fn any_gap(random: &mut Random) -> u32 {
+    match random.below(10) {
+        0 => random.between(0, MOST_GAP as usize) as u32,
+        1 => random.pick(&[MOST_GAP - 1, MOST_GAP]),
+        _ => random.below(6) as u32,
+    }
+}
+
 type Check = fn(&mut Report, &mut Random, &Call, &dyn Truth);
 
 pub const CHECKS: [Check; 3] = [
@@ -265,9 +325,11 @@ fn check_good(
     let steps = step_list(random, &values);
     let call = Call::good(picture, attribute, truth.levels.neighbours, steps);
     check_build(report, random, &call, truth);
-    if let Some((residue, _)) = check_map(report, random, &call, truth) {
-        report.met("residues", u64::from(residue.iter().any(|fall| *fall > 0)));
-    }
+    let gaps = [0, any_gap(random)];
+    let maps = check_gaps(report, random, &call, &gaps, truth);
+    let some = maps[0].0.iter().any(|fall| *fall > 0);
+    report.met("residues", u64::from(some));
+    report.met("joined", u64::from(maps[0] != maps[1]));
     let single = vec![threshold(random, &values)];
     let call = Call::good(picture, attribute, truth.levels.neighbours, single);
     check_open(report, random, &call, truth);
@@ -290,7 +352,10 @@ fn check_damaged(
     let attribute = random.between(1, 3) as u32;
     let values = attribute_values(truth.levels, attribute);
     let steps = step_list(random, &values);
-    let good = Call::good(picture, attribute, truth.levels.neighbours, steps);
+    let good = Call {
+        gap: any_gap(random),
+        ..Call::good(picture, attribute, truth.levels.neighbours, steps)
+    };
     for check in CHECKS {
         let mut damaged = good.clone();
         for cause in causes {
@@ -314,13 +379,15 @@ fn check_fast(report: &mut Report, random: &mut Random, picture: &Picture, level
     let attribute = random.between(1, 3) as u32;
     let values = attribute_values(levels, attribute);
     let steps = step_list(random, &values);
+    let gaps = [0, any_gap(random)];
     let same = levels.record(attribute) == forest.record(attribute)
         && levels.opening(attribute, steps[0]) == forest.opening(attribute, steps[0])
-        && levels.maps(picture, attribute, &steps) == forest.maps(attribute, &steps);
+        && levels.maps(picture, attribute, &steps, &gaps) == forest.maps(attribute, &steps, &gaps);
     let fault = (!same).then(|| String::from("fast and plain implementation differ"));
     report.check(fault, || {
         let neighbours = levels.neighbours;
-        format!("{picture:?} attribute {attribute}, {neighbours} neighbours, steps {steps:?}")
+        let named = (attribute, neighbours, &steps, gaps);
+        format!("{picture:?} attribute, neighbours, steps and gaps {named:?}")
     });
 }
 
@@ -345,7 +412,9 @@ pub fn run(report: &mut Report, seed: u64, cases: usize) {
     }
     report.check_all_met("build", &[0, 1, 2, 3, 17, 5]);
     report.check_all_met("open", &[0, 1, 2, 3, 17, 4, 5, 6]);
-    report.check_all_met("map", &[0, 1, 2, 3, 17, 4, 5, 6]);
+    report.check_all_met("map", &[0, 1, 2, 3, 17, 4, 19, 5, 6]);
     println!("  maps of good calls without residues (0) or with some (1):");
     report.check_all_met("residues", &[0, 1]);
+    println!("  with another gap the same maps (0) or others (1):");
+    report.check_all_met("joined", &[0, 1]);
 }

@@ -1,10 +1,12 @@
-// The scope, "Causes and their numbers", and the requests that a call names 4 or 8 neighbours and
-// that a workspace has room for the list of nodes: what is refused, in its order.
+// The scope, "Causes and their numbers", and the requests that a call names 4 or 8 neighbours, that
+// a map call names a gap, and that a workspace has room for the list of nodes: what is refused, in
+// its order.
 
 pub const MOST_SIDE: u64 = 4096;
 pub const MOST_PIXELS: u64 = 1_048_576;
 pub const MOST_THRESHOLD: u32 = 1_048_577;
 pub const MOST_STEPS: usize = 256;
+pub const MOST_GAP: u32 = 256;
 
 /// Parents, attributes, the list of nodes, and four parts of scratch.
 pub const WORDS_A_PIXEL: usize = 7;
@@ -13,7 +15,7 @@ pub const WORDS_A_PIXEL: usize = 7;
 pub const NEIGHBOURHOODS: [u32; 2] = [4, 8];
 
 /// The causes of a call on a picture, in their order.
-pub const ORDER: [u32; 7] = [1, 2, 3, 17, 4, 5, 6];
+pub const ORDER: [u32; 8] = [1, 2, 3, 17, 4, 19, 5, 6];
 
 /// n, or 1 for a side or an n out of bounds.
 pub fn pixels(width: u32, height: u32) -> Result<usize, u32> {
@@ -35,7 +37,7 @@ pub fn is_step_list(steps: &[u32]) -> bool {
 }
 
 /// What a call on a picture names and is lent. One threshold stands as a list of one; building has
-/// no list and no outputs.
+/// no list and no outputs, and only a map call names a gap.
 pub struct Named<'a> {
     pub width: u32,
     pub height: u32,
@@ -43,6 +45,7 @@ pub struct Named<'a> {
     pub attribute: u32,
     pub neighbours: u32,
     pub steps: Option<&'a [u32]>,
+    pub gap: Option<u32>,
     pub workspace: usize,
     pub outputs: &'a [usize],
 }
@@ -54,6 +57,7 @@ fn applies(call: &Named, n: usize, cause: u32) -> bool {
         3 => !(1..=3).contains(&call.attribute),
         17 => !NEIGHBOURHOODS.contains(&call.neighbours),
         4 => call.steps.is_some_and(|steps| !is_step_list(steps)),
+        19 => call.gap.is_some_and(|gap| gap > MOST_GAP),
         5 => call.workspace != WORDS_A_PIXEL * n,
         _ => call.outputs.iter().any(|entries| *entries != n),
     }

@@ -1,15 +1,15 @@
 // Chains of opening calls, good and bad. A chain's picture equals a single opening exactly when no
 // node but the root has its attribute in the range between the two thresholds; both are levelings;
-// and where the accepted thresholds are a step list, the falls are what the map call writes. One
-// neighbourhood is named in all accepted calls, the single opening and the map call, and levelings
-// are judged by it. A list that mixes neighbourhoods is no chain: only each of its calls by itself
-// is held to the definitions.
+// and where the accepted thresholds are a step list, the falls are what the map call writes at gap
+// 0, and joined what it writes at another. One neighbourhood is named in all accepted calls, the
+// single opening and the map call, and levelings are judged by it. A list that mixes neighbourhoods
+// is no chain: only each of its calls by itself is held to the definitions.
 
-use crate::calls::{attribute_values, check_map, check_open, step_list, threshold};
+use crate::calls::{any_gap, attribute_values, check_gaps, check_open, step_list, threshold};
 use crate::calls::{ByDefinition, Call};
 use crate::causes::{is_step_list, refusal, NEIGHBOURHOODS, ORDER};
 use crate::damage;
-use crate::definition::{is_leveling, largest_falls, Levels, Picture};
+use crate::definition::{is_leveling, joined_falls, largest_falls, Levels, Picture};
 use crate::pictures;
 use crate::random::Random;
 use crate::report::Report;
@@ -175,9 +175,13 @@ fn check_falls(report: &mut Report, random: &mut Random, chain: &Chain) {
     };
     let (neighbours, steps) = (chain.levels.neighbours, chain.accepted.clone());
     let call = Call::good(&chain.original, chain.attribute, neighbours, steps);
-    let written = check_map(report, random, &call, &truth);
-    let falls = largest_falls(&chain.pictures);
-    let fault = (written != Some(falls)).then(|| String::from("falls are not the maps"));
+    let gap = any_gap(random);
+    let written = check_gaps(report, random, &call, &[0, gap], &truth);
+    let fault = (written[0] != largest_falls(&chain.pictures))
+        .then(|| String::from("falls are not the maps"));
+    report.check(fault, || chain.shown());
+    let fault = (written[1..] != joined_falls(&chain.pictures, &[gap]))
+        .then(|| format!("falls joined at gap {gap} are not the maps"));
     report.check(fault, || chain.shown());
 }
 

@@ -1,7 +1,8 @@
 // Ways to make a cause apply to a call.
 
 use crate::calls::Call;
-use crate::causes::{pixels, MOST_STEPS, MOST_THRESHOLD, NEIGHBOURHOODS, WORDS_A_PIXEL};
+use crate::causes::{pixels, NEIGHBOURHOODS, WORDS_A_PIXEL};
+use crate::causes::{MOST_GAP, MOST_STEPS, MOST_THRESHOLD};
 use crate::random::Random;
 
 /// Makes one of the causes apply to the call, whatever else does.
@@ -12,6 +13,7 @@ pub fn apply(random: &mut Random, call: &mut Call, cause: u32) {
         3 => call.numbers.attribute = wrong_attribute(random),
         17 => call.numbers.neighbours = wrong_neighbours(random),
         4 => steps(random, call),
+        19 => call.gap = wrong_gap(random),
         5 => call.workspace = random.pick(&all_wrong_workspaces(call.picture.len())),
         _ => outputs(random, call),
     }
@@ -46,6 +48,25 @@ pub fn all_wrong_neighbours() -> Vec<u32> {
 
 fn wrong_neighbours(random: &mut Random) -> u32 {
     random.pick(&all_wrong_neighbours())
+}
+
+/// Numbers above 256: small ones, large ones, gaps with one bit more, and gaps below 0.
+pub fn all_wrong_gaps() -> Vec<u32> {
+    let mut numbers = vec![258, 300, 511, 767, MOST_THRESHOLD, u32::MAX >> 1];
+    for gap in [0, 1, 2, MOST_GAP - 1, MOST_GAP] {
+        numbers.push(gap.wrapping_neg());
+        numbers.extend((0..32).map(|bit| gap | 1 << bit));
+    }
+    numbers.retain(|number| *number > MOST_GAP);
+    numbers
+}
+
+fn wrong_gap(random: &mut Random) -> u32 {
+    if random.chance(1, 4) {
+        random.between(MOST_GAP as usize + 1, u32::MAX as usize) as u32
+    } else {
+        random.pick(&all_wrong_gaps())
+    }
 }
 
 /// Lengths that are not 7n words: parts of n words, none to twice as many as are due; those for one

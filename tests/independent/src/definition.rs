@@ -1,9 +1,11 @@
 // The scope, "Picture, nodes, openings", "Steps and maps" and "Tree record", word for word: level
 // sets, components by flood fill, nodes, representatives, parents, openings, residues; and the
-// requests on floc cut by the frame and on the list of nodes. Nothing here is meant to be fast. How
-// many neighbours there are, 4 or 8, is named wherever it matters.
+// requests on floc cut by the frame and on the list of nodes. How residues are joined stands in
+// runs.rs. Nothing here is meant to be fast. How many neighbours there are, 4 or 8, is named
+// wherever it matters.
 
 use crate::causes::{NEIGHBOURHOODS, WORDS_A_PIXEL};
+use crate::runs::{self, Maps};
 
 /// Each attribute of a set with a pixel in the first or last row or column. No threshold is above.
 pub const CUT: u32 = 1_048_577;
@@ -233,17 +235,43 @@ impl Levels {
         self.holding.iter().map(opened).collect()
     }
 
-    /// Residue map and index map of a step list.
-    pub fn maps(&self, picture: &Picture, attribute: u32, steps: &[u32]) -> (Vec<u8>, Vec<u16>) {
+    /// The picture, and its opening at each step.
+    pub fn openings(&self, picture: &Picture, attribute: u32, steps: &[u32]) -> Vec<Vec<u8>> {
         let mut openings = vec![picture.greys.clone()];
         openings.extend(steps.iter().map(|t| self.opening(attribute, *t)));
-        largest_falls(&openings)
+        openings
+    }
+
+    /// Residue map and index map of a step list, at each gap.
+    pub fn maps(
+        &self,
+        picture: &Picture,
+        attribute: u32,
+        steps: &[u32],
+        gaps: &[u32],
+    ) -> Vec<Maps> {
+        joined_falls(&self.openings(picture, attribute, steps), gaps)
     }
 }
 
-/// For pictures of which each is at most the one before: the largest fall at each pixel, and the
-/// largest number, from 1, of a fall that attains it; 0 where it is 0.
-pub fn largest_falls(pictures: &[Vec<u8>]) -> (Vec<u8>, Vec<u16>) {
+/// For pictures of which each is at most the one before: the falls of each pixel, joined at each
+/// gap.
+pub fn joined_falls(pictures: &[Vec<u8>], gaps: &[u32]) -> Vec<Maps> {
+    let n = pictures[0].len();
+    let mut maps = vec![(vec![0; n], vec![0; n]); gaps.len()];
+    for p in 0..n {
+        let fall = |pair: &[Vec<u8>]| pair[0][p].saturating_sub(pair[1][p]);
+        let falls: Vec<u8> = pictures.windows(2).map(fall).collect();
+        for ((residue, index), gap) in maps.iter_mut().zip(gaps) {
+            (residue[p], index[p]) = runs::largest(&falls, *gap);
+        }
+    }
+    maps
+}
+
+/// The map of the scope, for pictures of which each is at most the one before: the largest fall at
+/// each pixel, and the largest number, from 1, of a fall that attains it; 0 where it is 0.
+pub fn largest_falls(pictures: &[Vec<u8>]) -> Maps {
     let n = pictures[0].len();
     let mut residue = vec![0u8; n];
     let mut index = vec![0u16; n];

@@ -1,8 +1,9 @@
-// Every picture of a few small shapes with a few greys, by every attribute and neighbourhood: as it
-// stands, where most of it is frame, and set in a ring of either of the two darkest greys.
+// Every picture of a few small shapes with a few greys, by every attribute and neighbourhood and at
+// several gaps: as it stands, where most of it is frame, and set in a ring of either of the two
+// darkest greys.
 
-use crate::calls::{check_build, check_map, check_open, ByDefinition, Call};
-use crate::causes::{MOST_THRESHOLD, NEIGHBOURHOODS};
+use crate::calls::{check_build, check_gaps, check_open, ByDefinition, Call};
+use crate::causes::{MOST_GAP, MOST_THRESHOLD, NEIGHBOURHOODS};
 use crate::definition::{Levels, Picture};
 use crate::pictures::ringed;
 use crate::random::Random;
@@ -37,6 +38,9 @@ const INSIDES: [(usize, usize, usize); 7] = [
 /// Unevenly apart, so that falls differ.
 const GREYS: [u8; 4] = [7, 8, 100, 255];
 
+/// Beside 0. They are taken in turn, so that a picture meets all of them.
+const GAPS: [u32; 4] = [1, 2, MOST_GAP - 1, MOST_GAP];
+
 /// The picture whose greys are the digits of the number.
 pub fn picture((width, height, greys): (usize, usize, usize), number: usize) -> Picture {
     let mut rest = number;
@@ -57,14 +61,21 @@ fn pixels(shape: (usize, usize, usize)) -> u32 {
 }
 
 /// No size that is visible is above `most`.
-fn check(report: &mut Report, random: &mut Random, picture: &Picture, neighbours: u32, most: u32) {
+fn check(
+    report: &mut Report,
+    random: &mut Random,
+    picture: &Picture,
+    neighbours: u32,
+    most: u32,
+    turn: usize,
+) {
     let levels = Levels::of(picture, neighbours);
     let truth = ByDefinition {
         picture,
         levels: &levels,
     };
     let thresholds: Vec<u32> = (1..=most + 1).chain([MOST_THRESHOLD]).collect();
-    for attribute in 1..=3 {
+    for (turn, attribute) in (turn..).zip(1..=3) {
         let mut steps = thresholds.clone();
         steps.retain(|_| random.chance(2, 3));
         let single = random.pick(&thresholds);
@@ -73,19 +84,21 @@ fn check(report: &mut Report, random: &mut Random, picture: &Picture, neighbours
         check_open(report, random, &call, &truth);
         if !steps.is_empty() {
             let call = Call::good(picture, attribute, neighbours, steps);
-            check_map(report, random, &call, &truth);
+            let gaps = [0, GAPS[turn % GAPS.len()]];
+            check_gaps(report, random, &call, &gaps, &truth);
         }
     }
 }
 
 pub fn run(report: &mut Report, seed: u64) {
     let mut random = Random::for_case(seed, 7, 0);
-    for neighbours in NEIGHBOURHOODS {
+    for (first, neighbours) in [0, 3].into_iter().zip(NEIGHBOURHOODS) {
         for shape in SHAPES {
             let most = pixels(shape);
             for number in 0..shape.2.pow(most) {
                 let picture = picture(shape, number);
-                check(report, &mut random, &picture, neighbours, most);
+                let turn = first + number;
+                check(report, &mut random, &picture, neighbours, most, turn);
             }
         }
         for shape in INSIDES {
@@ -93,7 +106,8 @@ pub fn run(report: &mut Report, seed: u64) {
             for number in 0..shape.2.pow(most) {
                 for grey in &GREYS[..2] {
                     let picture = ringed(&picture(shape, number), *grey);
-                    check(report, &mut random, &picture, neighbours, most);
+                    let turn = first + number;
+                    check(report, &mut random, &picture, neighbours, most, turn);
                 }
             }
         }

@@ -6,8 +6,8 @@
 // frame, parents and list are the second program's. Then random pictures, on which the library is
 // held to the laws as well.
 
-use crate::calls::{attribute_values, check_build, check_map, check_open, shown};
-use crate::calls::{step_list, threshold, ByDefinition, Call, Truth};
+use crate::calls::{any_gap, attribute_values, check_build, check_gaps, check_map, check_open};
+use crate::calls::{shown, step_list, threshold, ByDefinition, Call, Truth};
 use crate::causes::{MOST_THRESHOLD, NEIGHBOURHOODS};
 use crate::definition::{Levels, Picture, Record, CUT};
 use crate::fast::Forest;
@@ -15,9 +15,11 @@ use crate::nest::{Nest, Rectangle};
 use crate::pictures::{self, KINDS};
 use crate::random::Random;
 use crate::report::Report;
+use crate::runs::Maps;
 use crate::table::{rows, Table, AREA, HEIGHT, WIDTH};
 
-/// The tree, the maps, and the opening at each step, in the programs here and in the library.
+/// The tree, the maps, and the opening at each step, in the programs here and in the library. Where
+/// steps are at each size and one above it, residues are one or two places apart.
 fn check(
     report: &mut Report,
     random: &mut Random,
@@ -26,17 +28,19 @@ fn check(
     programs: &[&dyn Truth],
 ) {
     let attribute = call.numbers.attribute;
+    let gaps = [0, random.pick(&[1, 2])];
     let opening = |truth: &dyn Truth, t: u32| truth.opening(attribute, t);
+    let maps = |truth: &dyn Truth| truth.maps(attribute, &call.steps, &gaps);
     for program in programs {
         let mut steps = call.steps.iter();
         let same = program.record(attribute) == by_hand.record(attribute)
-            && program.maps(attribute, &call.steps) == by_hand.maps(attribute, &call.steps)
+            && maps(*program) == maps(by_hand)
             && steps.all(|t| opening(*program, *t) == opening(by_hand, *t));
         let fault = (!same).then(|| String::from("programs here: not as worked out by hand"));
         report.check(fault, || shown("tree, maps and openings", call));
     }
     check_build(report, random, call, by_hand);
-    check_map(report, random, call, by_hand);
+    check_gaps(report, random, call, &gaps, by_hand);
     check_openings(report, random, call, by_hand);
 }
 
@@ -78,9 +82,9 @@ impl Truth for AllFrame<'_> {
     fn opening(&self, _: u32, _: u32) -> Vec<u8> {
         self.picture.greys.clone()
     }
-    fn maps(&self, _: u32, _: &[u32]) -> (Vec<u8>, Vec<u16>) {
+    fn maps(&self, _: u32, _: &[u32], gaps: &[u32]) -> Vec<Maps> {
         let n = self.picture.pixels();
-        (vec![0; n], vec![0; n])
+        vec![(vec![0; n], vec![0; n]); gaps.len()]
     }
 }
 
@@ -387,7 +391,7 @@ fn from_frame(call: &Call, picture: &Picture) -> Vec<u8> {
 }
 
 /// Every pixel of the frame is 0 in both maps.
-fn maps_fault(call: &Call, (residue, index): &(Vec<u8>, Vec<u16>)) -> Option<String> {
+fn maps_fault(call: &Call, (residue, index): &Maps) -> Option<String> {
     let is_zero = |p: &usize| (residue[*p], index[*p]) == (0, 0);
     let at = frame(call).into_iter().find(|p| !is_zero(p))?;
     Some(format!(
@@ -416,9 +420,10 @@ fn check_laws(report: &mut Report, random: &mut Random, picture: &Picture, level
         let built = check_build(report, random, &call, &truth);
         let fault = built.and_then(|words| record_fault(&call, &words));
         report.check(fault, || shown("record", &call));
-        let mapped = check_map(report, random, &call, &truth);
-        let fault = mapped.and_then(|maps| maps_fault(&call, &maps));
-        report.check(fault, || shown("maps", &call));
+        let gaps = [0, any_gap(random)];
+        for maps in check_gaps(report, random, &call, &gaps, &truth) {
+            report.check(maps_fault(&call, &maps), || shown("maps", &call));
+        }
         for t in [threshold(random, &values), MOST_THRESHOLD] {
             let single = Call {
                 steps: vec![t],
@@ -444,6 +449,7 @@ pub fn run(report: &mut Report, seed: u64, cases: usize) {
             report,
             random: Random::for_case(seed, 10, u64::MAX - u64::from(neighbours)),
             neighbours,
+            gap: 0,
         };
         without_ring(&mut table);
         corners(&mut table);

@@ -1,7 +1,8 @@
 // A few large pictures, at the bounds of the sides and of n, against the fast implementation: as
-// they stand, and set in a ring where otherwise the frame would cut all that is in them.
+// they stand, and set in a ring where otherwise the frame would cut all that is in them. Each is
+// mapped at gap 0, and under one of the neighbourhoods at another gap too.
 
-use crate::calls::{check_build, check_map, check_open, Call};
+use crate::calls::{check_build, check_gaps, check_open, Call};
 use crate::causes::NEIGHBOURHOODS;
 use crate::definition::Picture;
 use crate::fast::Forest;
@@ -31,6 +32,8 @@ const RINGED: [(&str, usize, usize); 5] = [
     ("noise", 3, 4096),
     ("noise", 4096, 3),
 ];
+
+const GAPS: [u32; 7] = [1, 2, 3, 7, 40, 255, 256];
 
 pub fn picture(random: &mut Random, kind: &str, width: usize, height: usize) -> Picture {
     let (_, maker) = KINDS
@@ -67,7 +70,9 @@ fn check(report: &mut Report, random: &mut Random, picture: &Picture, case: usiz
             let call = Call::good(picture, attribute, neighbours, steps(random));
             check_build(report, random, &call, &forest);
             if attribute as usize == 1 + (case + turn) % 3 {
-                check_map(report, random, &call, &forest);
+                let further = GAPS[case % GAPS.len()];
+                let gaps = &[0, further][..1 + (case + turn) % 2];
+                check_gaps(report, random, &call, gaps, &forest);
             }
             let single = random.pick(&[2, 5, 12, 60, 900, 1024, 1_048_576, 1_048_577]);
             let call = Call::good(picture, attribute, neighbours, vec![single]);

@@ -6,7 +6,7 @@
 // theirs is known. The programs here are held to the same words. Then workspaces that are not 7n
 // words.
 
-use crate::calls::{first_fault, shown, step_list, ByDefinition, Call, CHECKS};
+use crate::calls::{any_gap, first_fault, shown, step_list, ByDefinition, Call, CHECKS};
 use crate::causes::{NEIGHBOURHOODS, ORDER, WORDS_A_PIXEL};
 use crate::damage;
 use crate::definition::{Levels, Picture};
@@ -219,14 +219,15 @@ fn map(random: &mut Random, call: &Call, workspace: &mut [u32]) -> u64 {
         &call.picture,
         call.numbers,
         &call.steps,
+        call.gap,
         workspace,
         residue,
         index,
     )
 }
 
-/// What building leaves is as the request has it, and opening and maps leave the very same words.
-/// Each workspace holds something else before. Hands back what building left.
+/// What building leaves is as the request has it, and opening and maps leave the very same words,
+/// maps at any gap. Each workspace holds something else before. Hands back what building left.
 fn check(report: &mut Report, random: &mut Random, call: &Call, turn: usize) -> Vec<u32> {
     let case = |name: &str, before: Before| format!("list after {before:?}, {}", shown(name, call));
     let (before, mut built) = lent(random, call, turn);
@@ -251,7 +252,10 @@ fn check(report: &mut Report, random: &mut Random, call: &Call, turn: usize) -> 
 
 fn good(random: &mut Random, picture: &Picture, attribute: u32, neighbours: u32) -> Call {
     let steps = step_list(random, &[1, 2, 3, 5, 8, 13, 40]);
-    Call::good(picture, attribute, neighbours, steps)
+    Call {
+        gap: any_gap(random),
+        ..Call::good(picture, attribute, neighbours, steps)
+    }
 }
 
 /// Under each neighbourhood and by each attribute, in the programs here by one of them in turn.

@@ -16,6 +16,7 @@ mod every;
 mod fast;
 mod files;
 mod frame;
+mod gaps;
 mod interface;
 mod large;
 mod lent;
@@ -28,6 +29,7 @@ mod pictures;
 mod program;
 mod random;
 mod report;
+mod runs;
 mod steps;
 mod table;
 mod vast;
@@ -42,11 +44,12 @@ const FEWEST_CASES: usize = 1000;
 
 type Suite = fn(&mut Report, &Options);
 
-const SUITES: [(&str, Suite); 11] = [
+const SUITES: [(&str, Suite); 12] = [
     ("table", |r, o| table::run(r, o.seed)),
     ("neighbours", |r, o| neighbours::run(r, o.seed)),
     ("frame", |r, o| frame::run(r, o.seed, o.cases / 10)),
     ("listing", |r, o| listing::run(r, o.seed, o.cases / 10)),
+    ("gaps", |r, o| gaps::run(r, o.seed, o.cases / 10)),
     ("every", |r, o| every::run(r, o.seed)),
     ("calls", |r, o| calls::run(r, o.seed, o.cases)),
     ("chains", |r, o| chains::run(r, o.seed, o.cases / 4)),

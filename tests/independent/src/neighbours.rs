@@ -248,6 +248,7 @@ pub fn run(report: &mut Report, seed: u64) {
             report,
             random: Random::for_case(seed, 9, u64::from(neighbours)),
             neighbours,
+            gap: 0,
         };
         diagonals(&mut table);
         corners(&mut table);

@@ -3,8 +3,9 @@
 
 use crate::calls::Truth;
 use crate::causes::MOST_THRESHOLD;
-use crate::definition::{largest_falls, Picture, Record, CUT};
+use crate::definition::{joined_falls, Picture, Record, CUT};
 use crate::pictures::by_place;
+use crate::runs::Maps;
 
 /// First and last row, first and last column.
 #[derive(Clone, Copy, PartialEq)]
@@ -131,9 +132,9 @@ impl Truth for Nest {
             .collect();
         self.depth.iter().map(|k| left[usize::from(*k)]).collect()
     }
-    fn maps(&self, attribute: u32, steps: &[u32]) -> (Vec<u8>, Vec<u16>) {
+    fn maps(&self, attribute: u32, steps: &[u32], gaps: &[u32]) -> Vec<Maps> {
         let mut openings = vec![self.picture.greys.clone()];
         openings.extend(steps.iter().map(|t| self.opening(attribute, *t)));
-        largest_falls(&openings)
+        joined_falls(&openings, gaps)
     }
 }

@@ -7,8 +7,9 @@ use crate::pgm;
 const MOST_BYTES: usize = 4096;
 const MOST_LISTED: usize = 2048;
 
-/// The program names no other number of neighbours.
+/// The program names no other number of neighbours, and no other gap.
 const NEIGHBOURS: u32 = 4;
+const GAP: u32 = 0;
 
 fn number(text: &[u8]) -> Option<u32> {
     let digits = text.len();
@@ -77,8 +78,9 @@ fn answer(basin: Option<&[u8]>, steps: Option<&[u8]>) -> Result<String, u32> {
         return Err(14);
     }
     let (attribute, steps) = parse(steps)?;
-    let (residue, index) = Levels::of(&picture, NEIGHBOURS).maps(&picture, attribute, &steps);
-    Ok(listing(&picture, &residue, &index))
+    let maps = Levels::of(&picture, NEIGHBOURS).maps(&picture, attribute, &steps, &[GAP]);
+    let (residue, index) = &maps[0];
+    Ok(listing(&picture, residue, index))
 }
 
 /// What the program prints; a file that cannot be opened or read is none.

@@ -24,11 +24,12 @@ pub fn rows<const COLUMNS: usize>(rows: &[[u8; COLUMNS]]) -> Picture {
     }
 }
 
-/// Expected values under one neighbourhood.
+/// Expected values under one neighbourhood, of maps at one gap.
 pub struct Table<'a> {
     pub report: &'a mut Report,
     pub random: Random,
     pub neighbours: u32,
+    pub gap: u32,
 }
 
 impl Table<'_> {
@@ -48,15 +49,18 @@ impl Table<'_> {
     pub fn maps(&mut self, picture: &Picture, named: (u32, &[u32]), residue: &[u8], index: &[u16]) {
         let levels = Levels::of(picture, self.neighbours);
         let forest = Forest::of(picture, self.neighbours);
-        let due = (residue.to_vec(), index.to_vec());
-        let same =
-            levels.maps(picture, named.0, named.1) == due && forest.maps(named.0, named.1) == due;
+        let due = [(residue.to_vec(), index.to_vec())];
+        let same = levels.maps(picture, named.0, named.1, &[self.gap]) == due
+            && forest.maps(named.0, named.1, &[self.gap]) == due;
         self.defined(same, "maps", picture);
         let truth = ByDefinition {
             picture,
             levels: &levels,
         };
-        let call = Call::good(picture, named.0, self.neighbours, named.1.to_vec());
+        let call = Call {
+            gap: self.gap,
+            ..Call::good(picture, named.0, self.neighbours, named.1.to_vec())
+        };
         check_map(self.report, &mut self.random, &call, &truth);
     }
 
@@ -76,9 +80,10 @@ impl Table<'_> {
 
     fn defined(&mut self, same: bool, what: &str, picture: &Picture) {
         let fault = (!same).then(|| format!("programs here: {what} not as worked out by hand"));
-        let neighbours = self.neighbours;
-        self.report
-            .check(fault, || format!("{picture:?}, {neighbours} neighbours"));
+        let (neighbours, gap) = (self.neighbours, self.gap);
+        self.report.check(fault, || {
+            format!("{picture:?}, {neighbours} neighbours, gap {gap}")
+        });
     }
 
     /// The tree of a picture in which the frame cuts every node, by each attribute.
@@ -226,6 +231,7 @@ pub fn run(report: &mut Report, seed: u64) {
             report,
             random: Random::for_case(seed, 3, u64::from(neighbours)),
             neighbours,
+            gap: 0,
         };
         table.one_row();
         table.maps_inside(&two_rows, (AREA, &[2]), &residue, &index);
