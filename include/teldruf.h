@@ -1,7 +1,7 @@
 /*
  * Teldruf sizes floc in grey pictures by ultimate attribute openings.
  *
- * The library allocates nothing and keeps nothing between calls: it works in the memory that a call lends it. A picture is a run of
+ * The library allocates nothing and keeps nothing between calls: it works in the memory that a call lends it. A picture is
  * n = width x height bytes, row by row from the top left; a position is row x width + column. Width and height are 1 to 4,096, n is
  * at most 1,048,576. Neighbours share an edge or, where a call names 8 of them and not 4, a corner.
  *
@@ -9,7 +9,7 @@
  * the cause's number times 2^32, and all lent memory is as it was. The first cause in the order named with a call decides.
  *
  * The caller's duties: pointers are not null and are aligned for their type, also where a length is 0; lengths count entries and
- * stand for memory that is there; runs lent in one call do not overlap; nobody else writes them during the call.
+ * stand for memory that is there; what is lent in one call does not overlap; nobody else writes it during the call.
  */
 #ifndef TELDRUF_H
 #define TELDRUF_H

@@ -16,7 +16,7 @@ use Rattle.causes.specs.Sides.{sides-fit}
 pub use Rattle.causes.proofs.Laws.{Bounded, bounded}
 use Rattle.causes.specs.declared.Cause.{Cause}
 use Rattle.calls.specs.Judging.{threshold-good, all-good, steps-good, gap-good, Test, also, verdict-after, verdict-of, accepted}
-use Rattle.calls.specs.Calls.{Build-call, build-tests, build-verdict, Open-call, open-tests, open-verdict, Map-call, map-tests, map-verdict}
+use Rattle.calls.specs.Calls.{Build-call, build-tests, build-verdict, Open-call, open-tests, open-verdict, Map-call, map-tests, map-verdict, map-residue, map-index, residue-map, index-map}
 use Rattle.calls.specs.declared.Verdict.{Verdict}
 use Rattle.calls.specs.declared.Verdict.the-variants.{Accepted, Refused}
 
@@ -118,6 +118,13 @@ map-passed call ok =
       residue = eqb-true _ _ (named .1 .1 .1 .0);
       index = eqb-true _ _ (named .1 .1 .1 .1 .0);
     }
+
+-- what an accepted map call writes
+pub maps-accepted : (call : Map-call) → map-verdict call ≡ Accepted
+    → (map-residue call ≡ residue-map (call .grid) (call .attribute) (call .steps) (call .gap) (call .picture))
+    × (map-index call ≡ index-map (call .grid) (call .attribute) (call .steps) (call .gap) (call .picture))
+unfolding map-residue map-index
+maps-accepted call ok = (rw ok, rw ok)
 
 -- the test and the verdict
 pub accepted-verdict : (verdict : Verdict) → accepted verdict ≡ true → verdict ≡ Accepted

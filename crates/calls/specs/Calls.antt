@@ -5,13 +5,14 @@ use mathlib.Core.List.{List, [], _∷_, _++_}
 use lib.ListN.{length}
 use denote.Ref.{RefT, now}
 use denote.Triple.Both.{Both}
-use Rattle.sets.specs.Sets.{table}
+use Rattle.sets.specs.Sets.{table, member}
 use Rattle.grid.specs.Pixels.{pixels}
 use Rattle.grid.specs.Neighbours.{adjacent}
 use Rattle.grid.specs.Attributes.{attribute}
 use Rattle.grid.specs.declared.Grid.{Grid}
 pub use Rattle.grid.specs.Greys.{grey}
 use Rattle.opening.specs.Opening.{opened}
+use Rattle.opening.specs.Node.{node}
 use Rattle.opening.specs.Residue.{threshold-tests, residue-by, index-by}
 use Rattle.tree.specs.Tree.{workspace, number-of-nodes}
 use Rattle.causes.specs.Causes.{number-of}
@@ -40,6 +41,10 @@ residue-map grid a steps gap picture =
 unfoldable pub index-map : Grid → ℕ → List ℕ → ℕ → List ℕ → List ℕ
 index-map grid a steps gap picture =
     table (pixels grid) (λ (p : ℕ). index-by (pixels grid) (adjacent grid) (threshold-tests (attribute grid a) steps) gap (grey picture) p)
+
+-- the attribute of the node that p is an own pixel of
+abbrev pub node-attribute : Grid → ℕ → List ℕ → ℕ → ℕ
+node-attribute grid a picture p = attribute grid a (member (node (pixels grid) (adjacent grid) (grey picture) p))
 
 -- the tree record of a picture, which every accepted call leaves in the workspace
 abbrev pub record-of : Grid → ℕ → List ℕ → List ℕ
@@ -173,11 +178,12 @@ map-call picture grid attribute steps gap workspace residue index =
     (now (residue .entry))
     (now (index .entry))
 
--- its tests, in order; the verdict is its answer
+-- its tests, in order, "19, gap above 256, after 4"; the verdict is its answer
 abbrev pub map-tests : Map-call → List Test
 map-tests call =
     picture-tests (call .grid) (length (call .picture)) (call .attribute)
-    ++ (steps-good (call .steps), Steps) ∷ (gap-good (call .gap), Gap)
+    ++ (steps-good (call .steps), Steps)
+    ∷ (gap-good (call .gap), Gap)
     ∷ workspace-test (call .grid) (length (call .workspace))
     ∷ output-test (call .grid) (length (call .residue))
     ∷ output-test (call .grid) (length (call .index))

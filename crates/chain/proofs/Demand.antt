@@ -27,9 +27,9 @@ use Rattle.causes.specs.declared.Cause.{Cause}
 use Rattle.calls.specs.Judging.{steps-good, accepted as is-accepted, verdict-numbers}
 use Rattle.calls.specs.declared.Verdict.{Verdict}
 use Rattle.calls.specs.declared.Verdict.the-variants.{Accepted, Refused}
-use Rattle.calls.proofs.Accepted.{bounded, step-list}
+use Rattle.calls.proofs.Accepted.{bounded, step-list, maps-accepted}
 use Rattle.causes.specs.Bounds.{most-pixels}
-use Rattle.calls.specs.Calls.{grey, opening, opening-of, open-verdict, open-output, Map-call, mapping-of, map-verdict, map-residue, map-index, residue-map, index-map}
+use Rattle.calls.specs.Calls.{grey, opening, opening-of, open-verdict, open-output, mapping-of, residue-map, index-map}
 use Rattle.chain.specs.Chain.{Call, verdict, accepted, answered, handed-on, Chain, Claim, Named, Equal, Whole, No-node-between, chain-picture, accepted-thresholds, largest-threshold, chain-falls, chain-residues, chain-indices}
 use Rattle.chain.proofs.Handed.{Opened-at, opened-picture-at, output-accepted, handed-refused, chain-opened, chain-falls-openings, chain-falls-total}
 
@@ -61,13 +61,6 @@ root-exactly grid picture wide p below = (
       component-grey (pixels grid) (adjacent grid) (grey picture) (grey picture p) p q (whole q q-below) in
       omega (arith, least-grey-le (pixels grid) (grey picture) p below)),
 )
-
--- what an accepted map call writes
-maps-accepted : (call : Map-call) → map-verdict call ≡ Accepted
-    → (map-residue call ≡ residue-map (call .grid) (call .attribute) (call .steps) (call .gap) (call .picture))
-    × (map-index call ≡ index-map (call .grid) (call .attribute) (call .steps) (call .gap) (call .picture))
-unfolding map-residue map-index
-maps-accepted call ok = (rw ok, rw ok)
 
 module _ (grid : Grid) (a : ℕ) (original : List ℕ) where
   -- the original is its opening at 0

@@ -8,7 +8,6 @@ use lib.ListN.{length}
 use Rattle.sets.specs.Sets.{table, member}
 use Rattle.grid.specs.Pixels.{pixels}
 use Rattle.grid.specs.Neighbours.{adjacent}
-use Rattle.grid.specs.Attributes.{attribute}
 use Rattle.grid.specs.declared.Grid.{Grid}
 use Rattle.opening.specs.Opening.{least-grey}
 use Rattle.opening.specs.Node.{node}
@@ -18,7 +17,7 @@ use Rattle.causes.specs.Causes.{number-of}
 use Rattle.causes.specs.Sides.{sides-fit}
 use Rattle.causes.specs.declared.Cause.{Cause}
 use Rattle.calls.specs.Judging.{steps-good, accepted as is-accepted, verdict-numbers}
-use Rattle.calls.specs.Calls.{grey, Open-call, opening-of, open-verdict, open-output, mapping-of, map-verdict, map-residue, map-index}
+use Rattle.calls.specs.Calls.{grey, node-attribute, Open-call, opening-of, open-verdict, open-output, mapping-of, map-verdict, map-residue, map-index}
 use Rattle.calls.specs.declared.Verdict.{Verdict}
 use Rattle.calls.specs.declared.Verdict.the-variants.{Accepted, Refused}
 
@@ -104,10 +103,6 @@ pub record Chain (grid : Grid) (a : ℕ) (original : List ℕ) (calls : List Cal
 -- "Equal means the same byte at every position."
 abbrev pub Equal : ℕ → List ℕ → List ℕ → Type 0
 Equal n x y = (p : ℕ) → p < n → grey x p ≡ grey y p
-
--- the attribute of the node that p is an own pixel of
-abbrev pub node-attribute : Grid → ℕ → List ℕ → ℕ → ℕ
-node-attribute grid a picture p = attribute grid a (member (node (pixels grid) (adjacent grid) (grey picture) p))
 
 -- every pixel is in the node that p is an own pixel of
 abbrev pub Whole : Grid → List ℕ → ℕ → Type 0

@@ -20,8 +20,8 @@ use Rattle.opening.specs.Residue.{falls-from, joined, largest, largest-place, N
 use Rattle.opening.proofs.Joined.{length-joined, joined-null}
 use Rattle.opening.proofs.Levels.{cond-case, least-grey-le}
 use Rattle.opening.proofs.Residue.{residues-fall}
-use Rattle.tree.proofs.Together.{Together, together-below}
-use Rattle.tree.proofs.Parents.{Over, Parent, Root, root-least, least-root, parent-contains, parent-found}
+use Rattle.tree.proofs.Together.{Together}
+use Rattle.tree.proofs.Parents.{Over, Parent, Root, root-least, least-root, parent-within, parent-contains, parent-found}
 use Rattle.tree.proofs.Climb.{opened-own, opened-parent, opened-node, opened-root}
 use Rattle.falls.specs.Falls.{outlasted, fall-place, joins, run-end, run-sum}
 use Rattle.falls.proofs.Largest.{largest-none, largest-raised, place-raised}
@@ -66,7 +66,7 @@ module _ (n : ℕ) (adj : Adjacency) (symm : Symmetric adj) (g : ℕ → ℕ) wh
       pub place-node : (p q : ℕ) → Parent n adj g p q → fall-place n adj tests g p ≡ outlasted (member (node n adj g p)) tests
       unfolding fall-place
       place-node p q w =
-          rw (ne-eqb (g p) (least-grey n g) (λ e. omega (arith, w .darker, least-grey-le n g q (together-below n adj symm g (g q) p q (w .over)))))
+          rw (ne-eqb (g p) (least-grey n g) (λ e. omega (arith, w .darker, least-grey-le n g q (parent-within n adj symm g p q w))))
 
       -- until then it keeps its grey
       kept-before : (p : ℕ) → p < n → (i : ℕ) → i < fall-place n adj tests g p → opened-by n adj (getD tests i wide) g p ≡ g p
@@ -118,7 +118,7 @@ module _ (n : ℕ) (adj : Adjacency) (symm : Symmetric adj) (g : ℕ → ℕ) wh
           → residues n adj tests g p ≡ set (residues n adj tests g q) (fall-place n adj tests g p) (g p - g q + getD (residues n adj tests g q) (fall-place n adj tests g p) 0)
       unfolding residues
       residues-raised p q b w =
-          let c : q < n = together-below n adj symm g (g q) p q (w .over) in
+          let c : q < n = parent-within n adj symm g p q w in
           rw
           (place-node p q w)
           (falls-raised
@@ -175,7 +175,7 @@ module _ (n : ℕ) (adj : Adjacency) (symm : Symmetric adj) (g : ℕ → ℕ) wh
         total-p = g p - g q + cond share (run-sum n adj tests gap g q) 0
 
         parent-inside : q < n
-        parent-inside = together-below n adj symm g (g q) p q (w .over)
+        parent-inside = parent-within n adj symm g p q w
 
         inside : k < length rs
         inside = omega (arith, length-residues q)

@@ -70,7 +70,7 @@ module _ (grid : Grid) (a : ℕ) (picture : List ℕ) (wide : 1 ≤ grid .width)
       (threshold-tests-narrow (length picture) attr rise 0 steps (given .rise))
       (length-map steps (at-least attr))
       (given .few)
-      (given .narrow)
+      (given .small-gap)
       (places-right (adjacent-symmetric grid) N whole rise steps (given .rise))
       bytes
       (settled-all prog (nodes-climbable N bytes)) in

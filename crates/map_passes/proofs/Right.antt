@@ -35,7 +35,7 @@ use Rattle.map_passes.proofs.Climbing.{nodes-up}
 
 -- the words are right for the node of q, which falls at one of the tests or never
 record Right (n : ℕ) (adj : Adjacency) (tests : List Keeps) (gap : ℕ) (g : ℕ → ℕ) (run pair q : ℕ) : Type 0 where
-  pub never : length tests ≤ fall-place n adj tests g q → place-in run ≡ 512
+  pub never : length tests ≤ fall-place n adj tests g q → place-in run ≡ place-in never
   pub place : fall-place n adj tests g q < length tests → place-in run ≡ fall-place n adj tests g q
   pub ends : fall-place n adj tests g q < length tests → end-in (own-in run) ≡ run-end n adj tests gap g q
   pub total : fall-place n adj tests g q < length tests → total-in (own-in run) ≡ run-sum n adj tests gap g q
@@ -43,13 +43,13 @@ record Right (n : ℕ) (adj : Adjacency) (tests : List Keeps) (gap : ℕ) (g : �
   pub index : index-in pair ≡ index-by n adj tests gap g q
 
 -- what is found near is what is joined: a node at step k of m and its parent, which falls at the place that its run says, or never
-near-is : (gap k m place run : ℕ) → k < most-steps → m ≤ most-steps → gap ≤ most-gap → (m ≤ place → place-in run ≡ 512)
+near-is : (gap k m place run : ℕ) → k < most-steps → m ≤ most-steps → gap ≤ most-gap → (m ≤ place → place-in run ≡ place-in never)
     → (place < m → place-in run ≡ place) → near gap k run ≡ joins m gap k place
 unfolding near
-near-is gap k m place run early few narrow never at =
+near-is gap k m place run early few small-gap past-all at =
     ⊎-elim
     (λ (past : m ≤ place).
-    rw (never past) (lt-leb 512 (k + gap) (omega arith) ∙ sym (joins-never m gap k place past)))
+    rw (past-all past) (lt-leb (place-in never) (k + gap) (omega arith) ∙ sym (joins-never m gap k place past)))
     (λ (falls : place < m).
     rw
     (at falls)

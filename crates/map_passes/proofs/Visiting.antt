@@ -23,7 +23,7 @@ module _ {n gap : ℕ} {steps ws : List ℕ} {i : ℕ} (turn : Visitable n gap s
     pub visit-ready : place < length steps → Settleable gap place (drop-of n ws i) n k (up-of n ws k) ws
     visit-ready l = record {
       few = omega (arith, turn .few);
-      narrow = turn .narrow;
+      small-gap = turn .small-gap;
       ws-size = turn .ws-size;
       node = turn .number;
       above = turn .up;
@@ -93,7 +93,7 @@ module _ {n nodes gap : ℕ} {steps ws ws' : List ℕ} {h : ℕ} (given : Given 
   visit-asked = record {
     few = given .few;
     rise = given .rise;
-    narrow = given .narrow;
+    small-gap = given .small-gap;
     ws-size = size;
     place = inside;
     number = rw (kept-closed (prog .kept) i inside) node-small;

@@ -33,7 +33,7 @@ Climbable n nodes level ws = Climbing n nodes (number-at ws) level (up-of n ws) 
 pub record Given (n nodes gap : ℕ) (steps ws : List ℕ) : Type 0 where
   pub few : length steps ≤ most-steps
   pub rise : rising 0 steps ≡ true
-  pub narrow : gap ≤ most-gap
+  pub small-gap : gap ≤ most-gap
   pub ws-size : length ws ≡ words-a-pixel * n
   pub level : ℕ → ℕ
   pub climb : Climbable n nodes level ws
@@ -46,7 +46,7 @@ place-at n steps ws k = place-of steps k (up-of n ws k) (held-of n ws k)
 pub record Visitable (n gap : ℕ) (steps ws : List ℕ) (i : ℕ) : Type 0 where
   pub few : length steps ≤ most-steps
   pub rise : rising 0 steps ≡ true
-  pub narrow : gap ≤ most-gap
+  pub small-gap : gap ≤ most-gap
   pub ws-size : length ws ≡ words-a-pixel * n
   pub place : i < n
   pub number : closed-of n ws i < n

@@ -77,7 +77,7 @@ pub record Storable (n k : ℕ) (ws : List ℕ) : Type 0 where
 -- what a node of number k needs that falls at a place, `fall` above its parent, of number up: the total of its run is a byte
 pub record Settleable (gap place fall n k up : ℕ) (ws : List ℕ) : Type 0 where
   pub few : place < most-steps
-  pub narrow : gap ≤ most-gap
+  pub small-gap : gap ≤ most-gap
   pub ws-size : length ws ≡ words-a-pixel * n
   pub node : k < n
   pub above : up < n

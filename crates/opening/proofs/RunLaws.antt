@@ -54,8 +54,8 @@ first-shift r rest a z null (suc i) l = null i (omega arith)
 
 module _ (gap carried r : ℕ) (rest : List ℕ) (b v : ℕ) where
   -- a null residue in front changes nothing
-  joined-null : r ≡ 0 → Joined gap carried rest b v → Joined gap carried (r ∷ rest) (suc b) v
-  joined-null z (a, run, which) = (
+  null-joined : r ≡ 0 → Joined gap carried rest b v → Joined gap carried (r ∷ rest) (suc b) v
+  null-joined z (a, run, which) = (
     suc a,
     run-shift gap r rest a b (λ pos. absurd (omega arith)) run,
     ⊎-elim
@@ -65,32 +65,32 @@ module _ (gap carried r : ℕ) (rest : List ℕ) (b v : ℕ) where
   )
 
   -- one that is not null and has another soon behind it goes on into the first run
-  joined-soon : 0 < r → soon gap rest ≡ true → Joined gap (carried + r) rest b v → Joined gap carried (r ∷ rest) (suc b) v
-  joined-soon pos near (a, run, inl (null, e)) =
+  soon-joined : 0 < r → soon gap rest ≡ true → Joined gap (carried + r) rest b v → Joined gap carried (r ∷ rest) (suc b) v
+  soon-joined pos near (a, run, inl (null, e)) =
       let (j, l, some) = soon-found gap rest near in
       let close : a < gap = ⊎-elim (λ (m : a ≤ j). omega arith) (λ (m : j < a). absurd (omega (arith, null j m))) (le-or-lt a j) in (
         0,
         run-extend gap r rest a b pos close run,
         inl (λ i m. absurd (omega arith), omega (arith, total-extend r rest a b (run .order) null)),
       )
-  joined-soon pos near (a, run, inr ((i, l, some), e)) = (
+  soon-joined pos near (a, run, inr ((i, l, some), e)) = (
     suc a,
     run-shift gap r rest a b (λ p. omega (arith, run .before i l some)) run,
     inr ((0, omega arith, pos), omega (arith, total-shift r rest a b)),
   )
 
   -- one that has none soon behind it ends its run, and the next run carries nothing
-  joined-far : 0 < r → soon gap rest ≡ false → Joined gap 0 rest b v → Joined gap carried (r ∷ rest) (suc b) v
-  joined-far pos far (a, run, which) = (
+  far-joined : 0 < r → soon gap rest ≡ false → Joined gap 0 rest b v → Joined gap carried (r ∷ rest) (suc b) v
+  far-joined pos far (a, run, which) = (
     suc a,
     run-shift gap r rest a b (λ p. soon-not gap rest far a (run .first)) run,
     inr ((0, omega arith, pos), ⊎-elim (λ (null, e). omega (arith, total-shift r rest a b)) (λ (some, e). e ∙ sym (total-shift r rest a b)) which),
   )
 
 -- there its run has what was carried
-joined-end : (gap carried r : ℕ) (rest : List ℕ) → 0 < r → soon gap rest ≡ false → Joined gap carried (r ∷ rest) 0 (carried + r)
+end-joined : (gap carried r : ℕ) (rest : List ℕ) → 0 < r → soon gap rest ≡ false → Joined gap carried (r ∷ rest) 0 (carried + r)
 unfolding total
-joined-end gap carried r rest pos far =
+end-joined gap carried r rest pos far =
     (0, run-single gap r rest pos (soon-not gap rest far), inl (λ i l. absurd (omega arith), omega arith))
 
 -- what is joined, with what is carried
@@ -103,14 +103,14 @@ joined-carried gap carried (r ∷ rest) zero some =
     (λ (l : List ℕ). 0 < getD l 0 0 → Joined gap carried (r ∷ rest) 0 (getD l 0 0))
     (λ z p. absurd (omega arith))
     (λ pos near p. absurd (omega arith))
-    (λ pos far p. joined-end gap carried r rest pos far)
+    (λ pos far p. end-joined gap carried r rest pos far)
     some
 joined-carried gap carried (r ∷ rest) (suc b) some =
     joined-cases gap carried r rest
     (λ (l : List ℕ). 0 < getD l (suc b) 0 → Joined gap carried (r ∷ rest) (suc b) (getD l (suc b) 0))
-    (λ z p. joined-null gap carried r rest b _ z (joined-carried gap carried rest b p))
-    (λ pos near p. joined-soon gap carried r rest b _ pos near (joined-carried gap (carried + r) rest b p))
-    (λ pos far p. joined-far gap carried r rest b _ pos far (joined-carried gap 0 rest b p))
+    (λ z p. null-joined gap carried r rest b _ z (joined-carried gap carried rest b p))
+    (λ pos near p. soon-joined gap carried r rest b _ pos near (joined-carried gap (carried + r) rest b p))
+    (λ pos far p. far-joined gap carried r rest b _ pos far (joined-carried gap 0 rest b p))
     some
 
 -- what is joined at a place is the total of a run that ends there

@@ -55,7 +55,7 @@ module _ (call : Map-call) {verdict : Verdict} (judged : verdict ≡ map-verdict
                 record {
                   few = list .not-more;
                   rise = list .rises;
-                  narrow = passed .gap;
+                  small-gap = passed .gap;
                   ws-size = built .buildable .words ∙ ap (λ (n : ℕ). words-a-pixel * n) (sym (common .a-byte-each));
                   level = _;
                   climb = nodes-climbable (built .nodes) bytes;

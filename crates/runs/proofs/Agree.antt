@@ -16,7 +16,7 @@ use Rattle.calls.specs.Calls.{grey, Map-call, map-verdict}
 use Rattle.calls.specs.declared.Verdict.the-variants.{Accepted}
 use Rattle.calls.proofs.Accepted.{map-passed, bounded}
 use Rattle.runs.specs.Claim.{residue-at}
-use Rattle.runs.specs.Equation.{Equation-6, attribute-at, Counted, Sums-agree}
+use Rattle.runs.specs.Equation.{Equation-6, own-attribute, Counted, Sums-agree}
 use Rattle.runs.proofs.Pixels.{residue-is}
 use Rattle.runs.proofs.Equation.{parent-inside, equation-only, sums-by-equation, run-is}
 
@@ -43,18 +43,18 @@ module _ (call : Map-call) (ok : map-verdict call ≡ Accepted) where
     abbrev kept : List ℕ → List Keeps
     kept l = threshold-tests (attribute (call .grid) (call .attribute)) l
 
-    by-definition : Equation-6 n (adjacent (call .grid)) (attribute-at call) (call .gap) g sum
+    by-definition : Equation-6 n (adjacent (call .grid)) (own-attribute call) (call .gap) g sum
         (λ (p : ℕ). residue-by n (adjacent (call .grid)) (kept (call .steps)) (call .gap) g p)
     by-definition =
         subst
         (λ (l : List ℕ).
-        Equation-6 n (adjacent (call .grid)) (attribute-at call) (call .gap) g
+        Equation-6 n (adjacent (call .grid)) (own-attribute call) (call .gap) g
         (λ (p : ℕ). run-sum n (adjacent (call .grid)) (kept l) (call .gap) g p)
         (λ (p : ℕ). residue-by n (adjacent (call .grid)) (kept l) (call .gap) g p))
         (sym (counted .steps))
         (sums-by-equation n (adjacent (call .grid)) (adjacent-symmetric (call .grid)) _ rise g whole m (call .gap) (counted .below-last))
 
-    equation : Equation-6 n (adjacent (call .grid)) (attribute-at call) (call .gap) g sum (residue-at call)
+    equation : Equation-6 n (adjacent (call .grid)) (own-attribute call) (call .gap) g sum (residue-at call)
     equation =
         record {
           root = λ p b e. (by-definition .root p b e .0, residue-is call ok p b ∙ by-definition .root p b e .1);
@@ -74,13 +74,13 @@ module _ (call : Map-call) (ok : map-verdict call ≡ Accepted) where
               subst
               (λ (l : List ℕ).
               let rs = residues n (adjacent (call .grid)) (kept l) g p in
-              (c : ℕ) × Run (call .gap) rs (attribute-at call p) c
-              × (run-sum n (adjacent (call .grid)) (kept l) (call .gap) g p ≡ run-total rs (attribute-at call p) c))
+              (c : ℕ) × Run (call .gap) rs (own-attribute call p) c
+              × (run-sum n (adjacent (call .grid)) (kept l) (call .gap) g p ≡ run-total rs (own-attribute call p) c))
               (sym (counted .steps))
               (run-is n (adjacent (call .grid)) (adjacent-symmetric (call .grid)) _ rise g whole m (call .gap) (counted .below-last) p b above);
         }
 
     -- no other sums are by equation 6, and no other map holds their largest
-    pub sums-only : (r R : ℕ → ℕ) → Equation-6 n (adjacent (call .grid)) (attribute-at call) (call .gap) g r R → (p : ℕ) → p < n
+    pub sums-only : (r R : ℕ → ℕ) → Equation-6 n (adjacent (call .grid)) (own-attribute call) (call .gap) g r R → (p : ℕ) → p < n
         → (r p ≡ sum p) × (R p ≡ residue-at call p)
     sums-only r R other = equation-only n (adjacent (call .grid)) (adjacent-symmetric (call .grid)) g whole other equation

@@ -21,8 +21,8 @@ use Rattle.opening.proofs.Residue.{threshold-tests-narrow, largest-bound}
 use Rattle.opening.proofs.Runs.{in-a-run, run-once}
 use Rattle.opening.proofs.RunLaws.{joined-run, run-ends, run-joined}
 use Rattle.tree.specs.Tree.{parent-representative}
-use Rattle.tree.proofs.Together.{Together, together-below}
-use Rattle.tree.proofs.Parents.{Parent, least-root, root-least, parent-found}
+use Rattle.tree.proofs.Together.{Together}
+use Rattle.tree.proofs.Parents.{Parent, least-root, root-least, parent-found, parent-within}
 use Rattle.falls.specs.Falls.{places-before, fall-place, joins, first-place, run-end, run-sum}
 use Rattle.falls.proofs.Joined.{first-is}
 use Rattle.falls.proofs.Places.{places-outlasted}
@@ -89,7 +89,7 @@ module _ (n : ℕ) (adj : Adjacency) (symm : Symmetric adj) (g : ℕ → ℕ)
         (parent-found n adj symm g p)
 
     pub parent-inside : parent-representative n adj g p < n
-    parent-inside = together-below n adj symm g (g (parent-representative n adj g p)) p _ (parent .over)
+    parent-inside = parent-within n adj symm g p _ parent
 
   -- what is by equation 6 is determined
   module _ {k r R r′ R′ : ℕ → ℕ} {gap : ℕ} (E : Equation-6 n adj k gap g r R) (E′ : Equation-6 n adj k gap g r′ R′) where

@@ -1,14 +1,14 @@
 -- At every pixel the maps of an accepted call are by runs, and by nothing else.
 use Prim.Native.Nat.{ℕ, suc, _+_, _≤_, _<_}
 use mathlib.Core.List.{List, map}
-use mathlib.Core.Path.{_≡_, ap, _∙_}
+use mathlib.Core.Path.{_≡_, _∙_}
 use native.Mathlib.Omega.{arith}
 use lib.ListN.{getD, length-map}
 use Rattle.sets.proofs.Laws.{table-at}
 use Rattle.opening.specs.Opening.{Keeps, at-least, opened-by}
-use Rattle.opening.specs.Residue.{joined, largest, largest-place, threshold-tests, Narrowing, residues, residue-by, index-by}
+use Rattle.opening.specs.Residue.{largest, largest-place, threshold-tests, Narrowing, residues, residue-by, index-by}
 use Rattle.opening.specs.Runs.{Run, run-total, By-runs}
-use Rattle.opening.proofs.Joined.{joined-zero, joined-le}
+use Rattle.opening.proofs.Joined.{joined-le, residue-zero, index-zero}
 use Rattle.opening.proofs.Residue.{threshold-tests-narrow, residues-fall, residues-total}
 use Rattle.opening.proofs.Runs.{in-a-run, run-once}
 use Rattle.opening.proofs.RunLaws.{by-runs, by-runs-only, run-joined, place-inside, run-telescopes}
@@ -17,9 +17,9 @@ use Rattle.grid.specs.Neighbours.{adjacent}
 use Rattle.grid.specs.Attributes.{attribute}
 use Rattle.grid.proofs.Attributes.{attribute-increasing}
 use Rattle.falls.proofs.Raised.{length-falls}
-use Rattle.calls.specs.Calls.{grey, Map-call, map-verdict, map-residue, map-index, residue-map, index-map}
+use Rattle.calls.specs.Calls.{grey, Map-call, map-verdict, residue-map, index-map}
 use Rattle.calls.specs.declared.Verdict.the-variants.{Accepted}
-use Rattle.calls.proofs.Accepted.{map-passed, bounded, step-list}
+use Rattle.calls.proofs.Accepted.{map-passed, maps-accepted, bounded, step-list}
 use Rattle.runs.specs.Claim.{residues-of, greys-of, residue-at, index-at, At-pixel}
 
 module _ (call : Map-call) (ok : map-verdict call ≡ Accepted) where
@@ -29,16 +29,16 @@ module _ (call : Map-call) (ok : map-verdict call ≡ Accepted) where
 
   pub residue-is : (p : ℕ) → p < pixels (call .grid)
       → residue-at call p ≡ residue-by (pixels (call .grid)) (adjacent (call .grid)) tests (call .gap) (grey (call .picture)) p
-  unfolding map-residue residue-map
-  residue-is p below = rw ok (table-at (pixels (call .grid)) _ p 0 below)
+  unfolding residue-map
+  residue-is p below = rw (maps-accepted call ok .0) (table-at (pixels (call .grid)) _ p 0 below)
 
   index-is : (p : ℕ) → p < pixels (call .grid)
       → index-at call p ≡ index-by (pixels (call .grid)) (adjacent (call .grid)) tests (call .gap) (grey (call .picture)) p
-  unfolding map-index index-map
-  index-is p below = rw ok (table-at (pixels (call .grid)) _ p 0 below)
+  unfolding index-map
+  index-is p below = rw (maps-accepted call ok .1) (table-at (pixels (call .grid)) _ p 0 below)
 
   -- its tests get narrower
-  pub narrow : Narrowing (pixels (call .grid)) (at-least (attribute (call .grid) (call .attribute)) 0) tests
+  narrow : Narrowing (pixels (call .grid)) (at-least (attribute (call .grid) (call .attribute)) 0) tests
   narrow =
       let passed = map-passed call ok in
       let fits = bounded (call .grid .width) (call .grid .height) (passed .common .sides) in
@@ -59,12 +59,10 @@ module _ (call : Map-call) (ok : map-verdict call ≡ Accepted) where
     both-by-runs = rw (residue-is p below, index-is p below) (by-runs (call .gap) rs)
 
     zero-residue : call .gap ≡ 0 → residue-at call p ≡ largest rs
-    unfolding residue-by
-    zero-residue none = residue-is p below ∙ ap largest (ap (λ (k : ℕ). joined k 0 rs) none ∙ joined-zero rs)
+    zero-residue none = residue-is p below ∙ rw none (residue-zero _ _ tests _ p)
 
     zero-index : call .gap ≡ 0 → index-at call p ≡ largest-place rs
-    unfolding index-by
-    zero-index none = index-is p below ∙ ap largest-place (ap (λ (k : ℕ). joined k 0 rs) none ∙ joined-zero rs)
+    zero-index none = index-is p below ∙ rw none (index-zero _ _ tests _ p)
 
     total-fits : (a b : ℕ) → Run (call .gap) rs a b → run-total rs a b ≤ grey (call .picture) p
     unfolding residues

@@ -5,16 +5,13 @@ use mathlib.Core.Bool.{cond}
 use mathlib.Core.List.{List, [], _∷_}
 use mathlib.Core.Path.{_≡_}
 use lib.Dec.{leb}
-use Rattle.sets.specs.Sets.{member}
 use Rattle.connected.specs.Component.{Adjacency}
 use Rattle.opening.specs.Opening.{least-grey}
-use Rattle.opening.specs.Node.{node}
 use Rattle.opening.specs.Runs.{Run, run-total}
 use Rattle.grid.specs.Pixels.{pixels}
 use Rattle.grid.specs.Neighbours.{adjacent}
-use Rattle.grid.specs.Attributes.{attribute}
 use Rattle.tree.specs.Tree.{parent-representative}
-use Rattle.calls.specs.Calls.{grey, Map-call}
+use Rattle.calls.specs.Calls.{grey, node-attribute, Map-call}
 use Rattle.runs.specs.Claim.{residues-of, residue-at}
 
 -- "steps 1, 2, 3 and on": so many from a number on
@@ -34,9 +31,8 @@ pub record Equation-6 (n : ℕ) (adj : Adjacency) (k : ℕ → ℕ) (gap : ℕ) 
   pub most : (p : ℕ) → p < n → least-grey n t < t p → R p ≡ max (r p) (R (parent-representative n adj t p))
 
 -- the attribute of a pixel's node
-abbrev pub attribute-at : Map-call → ℕ → ℕ
-attribute-at call p =
-    attribute (call .grid) (call .attribute) (member (node (pixels (call .grid)) (adjacent (call .grid)) (grey (call .picture)) p))
+abbrev pub own-attribute : Map-call → ℕ → ℕ
+own-attribute call p = node-attribute (call .grid) (call .attribute) (call .picture) p
 
 -- the node of p is not the root
 abbrev pub Below-root : Map-call → ℕ → Type 0
@@ -46,12 +42,12 @@ Below-root call p = least-grey (pixels (call .grid)) (grey (call .picture)) < gr
 -- attribute, so only the root touches it then.
 pub record Counted (call : Map-call) (m : ℕ) : Type 0 where
   pub steps : call .steps ≡ counting 1 m
-  pub below-last : (p : ℕ) → p < pixels (call .grid) → Below-root call p → attribute-at call p < m
+  pub below-last : (p : ℕ) → p < pixels (call .grid) → Below-root call p → own-attribute call p < m
 
 -- "Sums agree with 001's equation 6": r sums by it, and its largest sums are the residue map. The sum of a node that is not the root is the total
 -- of a run of its pixels' residues, the run that starts with the node's own fall, which with these steps is the one at the place of its
 -- attribute.
 pub record Sums-agree (call : Map-call) (r : ℕ → ℕ) : Type 0 where
-  pub sums : Equation-6 (pixels (call .grid)) (adjacent (call .grid)) (attribute-at call) (call .gap) (grey (call .picture)) r (residue-at call)
+  pub sums : Equation-6 (pixels (call .grid)) (adjacent (call .grid)) (own-attribute call) (call .gap) (grey (call .picture)) r (residue-at call)
   pub run : (p : ℕ) → p < pixels (call .grid) → Below-root call p
-      → (b : ℕ) × Run (call .gap) (residues-of call p) (attribute-at call p) b × (r p ≡ run-total (residues-of call p) (attribute-at call p) b)
+      → (b : ℕ) × Run (call .gap) (residues-of call p) (own-attribute call p) b × (r p ≡ run-total (residues-of call p) (own-attribute call p) b)

@@ -1,6 +1,6 @@
 -- The cases for proof of the scope's table of small pictures, which name 4 neighbours and gap 0, and those that requests E2 and E4 add, as one
--- statement over the definitions that the calls' contracts state. By request E6 they "are then set in a ring, one pixel wide, of their least grey; their light maps and
--- openings inside it stay, and the tree case" is "worked out again". The ring itself has no residue and keeps its grey.
+-- statement over the definitions that the calls' contracts state. By request E6 they "are then set in a ring, one pixel wide, of their least
+-- grey; their light maps and openings inside it stay, and the tree case" is "worked out again". The ring itself has no residue and keeps its grey.
 use Prim.Native.Nat.{ℕ, _+_}
 use mathlib.Core.List.{List, [], _∷_, _++_, foldr}
 use mathlib.Core.Path.{_≡_}

@@ -92,6 +92,9 @@ module _ (n : ℕ) (adj : Adjacency) (symm : Symmetric adj) (g : ℕ → ℕ) wh
   parent-found p = node-below-found (g p) p
 
   -- two parents of one node are one node
+  pub parent-within : (p q : ℕ) → Parent n adj g p q → q < n
+  parent-within p q w = together-below n adj symm g (g q) p q (w .over)
+
   pub parent-unique : (p q r : ℕ) → Parent n adj g p q → Parent n adj g p r → representative n adj g q ≡ representative n adj g r
   parent-unique p q r v w =
       let e : g r ≡ g q = omega (arith, v .nearest r (w .over) (w .darker), w .nearest q (v .over) (v .darker)) in
@@ -136,7 +139,7 @@ module _ (n : ℕ) (adj : Adjacency) (symm : Symmetric adj) (g : ℕ → ℕ) wh
   -- strictly
   pub parent-strict : (p q : ℕ) → Parent n adj g p q → (member (node n adj g q) q ≡ true) × (member (node n adj g p) q ≡ false)
   parent-strict p q w = (
-    level-self n adj g (g q) q (together-below n adj symm g (g q) p q (w .over)) (le-refl (g q)),
+    level-self n adj g (g q) q (parent-within p q w) (le-refl (g q)),
     is-false (member (node n adj g p) q) (λ t. omega (arith, component-grey n adj g (g p) p q t, w .darker)),
   )
 

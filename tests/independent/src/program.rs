@@ -115,8 +115,8 @@ const ODD_PICTURES: [&[u8]; 14] = [
 ];
 
 /// The scope's example, its two-row case, in which the corners would count with 8 neighbours, and
-/// its P, whose residues a gap of 2 would join, each set in a ring; and the example without one,
-/// which is all frame.
+/// its P, whose residues any gap above 0 would join, each set in a ring; and the example without
+/// one, which is all frame.
 const EXAMPLES: [(&[u8], &[u8], &str); 4] = [
     (
         b"P5\n5 3\n255\n\x0a\x0a\x0a\x0a\x0a\x0a\x0a\x28\x0a\x0a\x0a\x0a\x0a\x0a\x0a",
@@ -138,12 +138,12 @@ const EXAMPLES: [(&[u8], &[u8], &str); 4] = [
     (
         b"P5\n7 3\n255\n\x0a\x0a\x0a\x0a\x0a\x0a\x0a\x0a\x0a\x1e\x14\x32\x0a\x0a\
           \x0a\x0a\x0a\x0a\x0a\x0a\x0a",
-        b"attribute\tarea\nstep\t1\nstep\t2\nstep\t3\nstep\t4\n",
+        b"attribute\tarea\nstep\t2\nstep\t4\n",
         "row\tcol\tgrey\tresidue\tindex\n\
          0\t0\t10\t0\t0\n0\t1\t10\t0\t0\n0\t2\t10\t0\t0\n0\t3\t10\t0\t0\n\
          0\t4\t10\t0\t0\n0\t5\t10\t0\t0\n0\t6\t10\t0\t0\n\
-         1\t0\t10\t0\t0\n1\t1\t10\t0\t0\n1\t2\t30\t10\t4\n1\t3\t20\t10\t4\n\
-         1\t4\t50\t30\t2\n1\t5\t10\t0\t0\n1\t6\t10\t0\t0\n\
+         1\t0\t10\t0\t0\n1\t1\t10\t0\t0\n1\t2\t30\t10\t2\n1\t3\t20\t10\t2\n\
+         1\t4\t50\t30\t1\n1\t5\t10\t0\t0\n1\t6\t10\t0\t0\n\
          2\t0\t10\t0\t0\n2\t1\t10\t0\t0\n2\t2\t10\t0\t0\n2\t3\t10\t0\t0\n\
          2\t4\t10\t0\t0\n2\t5\t10\t0\t0\n2\t6\t10\t0\t0\n",
     ),
