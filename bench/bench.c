@@ -1,12 +1,13 @@
 /*
  * The library, the same flooding in C, and a union-find baseline, side by side on pictures of 1,048,576 pixels, and an earlier
  * library beside them where the benchmark is built with one. All must agree but for that one, which may answer otherwise; times are
- * printed and nothing is asked of them. A time is the processor time of one call, the least of several, on memory that was touched before
- * and is not cleared between calls.
+ * printed, with what is asked of them, and decide nothing. A time is the processor time of one call, the least of several, on memory that
+ * was touched before and is not cleared between calls.
  *
  *   bench [area|height|width] [RUNS] [4|8]
  *
- * Without a number of neighbours there is a table for each.
+ * Without a number of neighbours there is a table for each. A call is compared with another of the library's own too: a map with a gap with
+ * the one at gap 0, the dark map with the map of the reversed picture, the combined map with the map.
  */
 #include "bench.h"
 #include "teldruf.h"
@@ -15,7 +16,11 @@
 #include <stdlib.h>
 #include <string.h>
 
-enum { CAMERA_SECONDS = 20 };
+/* A camera sends a picture in so many seconds, and so many cameras are to be served. */
+enum { CAMERA_SECONDS = 20, CAMERAS = 212 };
+
+/* What a dark map may take of the time of a map, and a combined one. */
+static const double DARK_AT_MOST = 1.05, COMBINED_AT_MOST = 2.1;
 
 /* The most neighbours that the earlier library knows, 0 without one, and how many of the calls. */
 #ifndef BEFORE
@@ -31,13 +36,17 @@ static const char *const attributes[] = {"area", "height", "width"};
 /* How many of the ways run: the earlier library where it knows the neighbours named and the call. */
 static int ways_with(uint32_t neighbours, int part) { return neighbours <= BEFORE && part < BEFORE_PARTS ? WAYS : EARLIER; }
 
-static uint64_t c_call(record_fn *record, map_fn *map, int part, const picture_t *p, uint32_t attribute, result_t *r) {
+static uint64_t c_call(record_fn *record, map_fn *map, map_fn *combined, int part, const picture_t *p, uint32_t attribute, result_t *r) {
     if (part == BUILD)
         return c_build(record, p, attribute, r->ws);
-    if (part == OPENING)
+    if (part == OPENING) {
         c_open(record, p, attribute, THRESHOLD, r->ws, r->output);
-    else
-        map(p, attribute, steps, STEPS, gaps[part], r->ws, r->residue, r->index);
+    } else if (part == DARK) {
+        picture_t reversed = reversed_in(p, r);
+        map(&reversed, attribute, steps, STEPS, gaps[part], r);
+    } else {
+        (part == COMBINED ? combined : map)(p, attribute, steps, STEPS, gaps[part], r);
+    }
     return 0;
 }
 
@@ -48,8 +57,8 @@ static uint64_t call(int way, int part, const picture_t *picture, uint32_t attri
     if (way == EARLIER)
         return before_call(part, picture, attribute, r);
 #endif
-    return way == FLOOD ? c_call(flood_record, flood_map, part, picture, attribute, r)
-                        : c_call(join_record, join_map, part, picture, attribute, r);
+    return way == FLOOD ? c_call(flood_record, flood_map, flood_combined, part, picture, attribute, r)
+                        : c_call(join_record, join_map, join_combined, part, picture, attribute, r);
 }
 
 static double timed(int way, int part, const picture_t *picture, uint32_t attribute, result_t *r) {
@@ -66,6 +75,8 @@ static int agree(int part, const result_t *a, const result_t *b) {
         return 1;
     if (part == OPENING)
         return memcmp(a->output, b->output, PIXELS) == 0;
+    if (part == COMBINED && memcmp(a->contrast, b->contrast, PIXELS * sizeof *a->contrast) != 0)
+        return 0;
     return memcmp(a->residue, b->residue, PIXELS) == 0 && memcmp(a->index, b->index, PIXELS * sizeof *a->index) == 0;
 }
 
@@ -85,14 +96,13 @@ static int differing_ways(const char *name, int part, int count, const result_t 
     return differing;
 }
 
-/* A map with a gap is compared with the library's own at gap 0 too. */
 static void print_rows(const char *name, uint32_t neighbours, double times[PARTS][WAYS]) {
     for (int part = 0; part < PARTS; part++) {
         double *t = times[part];
         printf("%-13s %-8s %9.1f %9.1f %9.1f   %8.2f %8.2f", name, parts[part], t[LIBRARY], t[FLOOD], t[UNION],
                t[LIBRARY] / t[FLOOD], t[LIBRARY] / t[UNION]);
-        if (gaps[part] > 0)
-            printf(" %8.2f", t[LIBRARY] / times[MAP][LIBRARY]);
+        if (beside[part] != 0)
+            printf(" %8.2f", t[LIBRARY] / times[beside[part]][LIBRARY]);
         else
             printf(" %8s", "-");
         if (ways_with(neighbours, part) > EARLIER)
@@ -101,20 +111,28 @@ static void print_rows(const char *name, uint32_t neighbours, double times[PARTS
     }
 }
 
-/* All ways and parts on one picture; the time of the library's map call, below 0 if the ways differ. */
-static double run_picture(const char *name, uint32_t attribute, uint32_t neighbours, int runs, result_t results[WAYS]) {
-    picture_t picture;
+/* How many pictures and cameras a core has time for, by the library. */
+static void print_rate(const char *name, int part, double times[PARTS][WAYS]) {
+    double time = times[part][LIBRARY];
+    printf("%-13s %s: %.1f pictures a second, %.0f cameras a core\n", name, parts[part], 1e3 / time, CAMERA_SECONDS * 1e3 / time);
+}
+
+/* All ways and parts on one picture. Answers in how many calls a way differs. */
+static int run_picture(const char *name, uint32_t attribute, uint32_t neighbours, int runs, result_t results[WAYS]) {
+    picture_t picture, reversed;
     int differing = 0;
     double times[PARTS][WAYS];
     if (!picture_make(&picture, name, SIDE, SIDE))
         exit(2);
     picture.neighbours = neighbours;
+    if (!picture_reverse(&reversed, &picture))
+        exit(2);
     for (int run = 0; run < runs; run++)
         for (int part = 0; part < PARTS; part++) {
             int count = ways_with(neighbours, part);
             for (int k = 0; k < count; k++) {
                 int way = (run + k) % count;
-                double time = timed(way, part, &picture, attribute, &results[way]);
+                double time = timed(way, part, part == REVERSED ? &reversed : &picture, attribute, &results[way]);
                 if (run == 0 || time < times[part][way])
                     times[part][way] = time;
             }
@@ -122,8 +140,13 @@ static double run_picture(const char *name, uint32_t attribute, uint32_t neighbo
                 differing += differing_ways(name, part, count, results);
         }
     free(picture.greys);
+    free(reversed.greys);
     print_rows(name, neighbours, times);
-    return differing ? -1 : times[MAP][LIBRARY];
+    if (differing == 0) {
+        print_rate(name, MAP, times);
+        print_rate(name, COMBINED, times);
+    }
+    return differing;
 }
 
 /* All pictures with one number of neighbours. Answers on how many the ways differ. */
@@ -131,14 +154,12 @@ static int run_table(uint32_t attribute, uint32_t neighbours, int runs, result_t
     int differing = 0;
     printf("%d pixels, %u neighbours, %s, opening at %d, map with %d steps and at a gap; ms, least of %d\n", PIXELS, (unsigned)neighbours,
            attributes[attribute - 1], THRESHOLD, STEPS, runs);
-    printf("%-13s %-8s %9s %9s %9s   %8s %8s %8s", "picture", "call", "library", "flooding", "union", "to flood", "to union", "to gap 0");
+    printf("asked for: dark at most %.2f of reversed, combined %.1f of map, %d cameras a core with combined maps\n", DARK_AT_MOST,
+           COMBINED_AT_MOST, CAMERAS);
+    printf("%-13s %-8s %9s %9s %9s   %8s %8s %8s", "picture", "call", "library", "flooding", "union", "to flood", "to union", "to own");
     puts(ways_with(neighbours, BUILD) > EARLIER ? "   earlier  to that" : "");
-    for (int k = 0; k < KINDS; k++) {
-        double time = run_picture(kinds[k], attribute, neighbours, runs, results);
-        differing += time < 0;
-        if (time > 0)
-            printf("%-13s map: %.1f pictures a second, %.0f cameras a core\n", kinds[k], 1e3 / time, CAMERA_SECONDS * 1e3 / time);
-    }
+    for (int k = 0; k < KINDS; k++)
+        differing += run_picture(kinds[k], attribute, neighbours, runs, results) > 0;
     return differing;
 }
 

@@ -7,14 +7,18 @@
 #include <stdint.h>
 
 enum { AREA = 1, HEIGHT = 2, WIDTH = 3, FRAME = 1048577 };
-enum { BUILD, OPENING, MAP, MAP_4, MAP_256, PARTS };
+enum { BUILD, OPENING, MAP, MAP_4, MAP_256, REVERSED, DARK, COMBINED, PARTS };
 enum { STEPS = 256, THRESHOLD = 40, SIDE = 1024, PIXELS = SIDE * SIDE, KINDS = 6 };
 
-/* What every call is given, once steps_make is called, the kinds of pictures, and the calls' names and the gaps of the maps. */
+/*
+ * What every call is given, once steps_make is called, the kinds of pictures, and the calls: their names, the gaps of the maps, and with
+ * which call of the same library one is compared, 0 for none. REVERSED is the map of the reversed picture, which it must be given.
+ */
 extern uint32_t steps[STEPS];
 extern const char *const kinds[KINDS];
 extern const char *const parts[PARTS];
 extern const uint32_t gaps[PARTS];
+extern const int beside[PARTS];
 
 void steps_make(void);
 
@@ -30,6 +34,7 @@ typedef struct {
     uint32_t *ws;
     uint8_t *output, *residue;
     uint16_t *index;
+    int16_t *contrast;
     uint64_t answer;
 } result_t;
 
@@ -46,6 +51,9 @@ call_fn library_call, before_call;
 
 /* Pictures of many kinds; the same for the same name and size. Their neighbours are left to be named. */
 int picture_make(picture_t *picture, const char *name, uint32_t width, uint32_t height);
+
+/* 255 less each grey, with the same neighbours. */
+int picture_reverse(picture_t *reversed, const picture_t *picture);
 
 /* Two ways to the record in parts 1 and 2, with the list of the representatives in part 3. They answer the number of nodes. */
 typedef uint32_t record_fn(const picture_t *picture, uint32_t attribute, uint32_t *ws);
@@ -64,11 +72,16 @@ uint32_t c_build(record_fn *record, const picture_t *picture, uint32_t attribute
 void c_open(record_fn *record, const picture_t *picture, uint32_t attribute, uint32_t threshold, uint32_t *ws, uint8_t *output);
 void clear(const picture_t *picture, uint32_t nodes, uint32_t *ws);
 
-/* The maps: after the flood by the numbers of the nodes, after union-find by the list of the representatives. */
-typedef void map_fn(const picture_t *picture, uint32_t attribute, const uint32_t *steps, size_t count, uint32_t gap, uint32_t *ws,
-                    uint8_t *residue, uint16_t *index);
+/*
+ * The maps: after the flood by the numbers of the nodes, after union-find by the list of the representatives. The residue map is written
+ * when the picture is no longer read, so that the reversed picture can stand in it.
+ */
+typedef void map_fn(const picture_t *picture, uint32_t attribute, const uint32_t *steps, size_t count, uint32_t gap, result_t *result);
 
-map_fn flood_map, join_map;
+map_fn flood_map, flood_combined, join_map, join_combined;
+
+/* The reversed picture, in the residue map. */
+picture_t reversed_in(const picture_t *picture, result_t *result);
 
 /* How many of the steps stand before the first one above each attribute below 256. */
 void small_places(const uint32_t *steps, size_t count, uint32_t small[256]);
@@ -132,5 +145,11 @@ static inline void put_maps(uint32_t pair, uint8_t *residue, uint16_t *index) {
     *residue = pair & 255;
     *index = (pair + 255) >> 8;
 }
+
+/* Whether the light pair has the larger total. */
+static inline uint32_t light_wins(uint32_t light, uint32_t dark) { return (dark & 255) < (light & 255); }
+
+/* The total of the light pair if it won, else of the dark one, below 0. */
+static inline int16_t contrast_of(uint32_t won, uint32_t light, uint32_t dark) { return choose(won, light & 255, -(dark & 255)); }
 
 #endif

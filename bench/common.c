@@ -8,8 +8,9 @@
 
 uint32_t steps[STEPS];
 const char *const kinds[KINDS] = {"floc", "noise", "smooth", "ramp", "flat", "checkerboard"};
-const char *const parts[PARTS] = {"build", "opening", "map", "gap 4", "gap 256"};
+const char *const parts[PARTS] = {"build", "opening", "map", "gap 4", "gap 256", "reversed", "dark", "combined"};
 const uint32_t gaps[PARTS] = {[MAP_4] = 4, [MAP_256] = 256};
+const int beside[PARTS] = {[MAP_4] = MAP, [MAP_256] = MAP, [DARK] = REVERSED, [COMBINED] = MAP};
 
 void steps_make(void) {
     for (uint32_t i = 0; i < STEPS; i++)
@@ -25,7 +26,7 @@ static void *touched(size_t bytes) {
 
 result_t lend(void) {
     void *words = touched(TELDRUF_WORDS_A_PIXEL * PIXELS * sizeof(uint32_t));
-    return (result_t){words, touched(PIXELS), touched(PIXELS), touched(PIXELS * sizeof(uint16_t)), 0};
+    return (result_t){words, touched(PIXELS), touched(PIXELS), touched(PIXELS * sizeof(uint16_t)), touched(PIXELS * sizeof(int16_t)), 0};
 }
 
 double milliseconds(void) {

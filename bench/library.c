@@ -11,6 +11,12 @@ uint64_t LIBRARY_CALL(int part, const picture_t *p, uint32_t attribute, result_t
         return teldruf_build(p->greys, n, p->width, p->height, attribute, p->neighbours, r->ws, words);
     if (part == OPENING)
         return teldruf_open(p->greys, n, p->width, p->height, attribute, p->neighbours, THRESHOLD, r->ws, words, r->output, n);
+    if (part == DARK)
+        return teldruf_dark_map(p->greys, n, p->width, p->height, attribute, p->neighbours, steps, STEPS, gaps[part], r->ws, words,
+                                r->residue, n, r->index, n);
+    if (part == COMBINED)
+        return teldruf_combined_map(p->greys, n, p->width, p->height, attribute, p->neighbours, steps, STEPS, gaps[part], r->ws, words,
+                                    r->residue, n, r->index, n, r->contrast, n);
     return teldruf_map(p->greys, n, p->width, p->height, attribute, p->neighbours, steps, STEPS, gaps[part], r->ws, words, r->residue,
                        n, r->index, n);
 }

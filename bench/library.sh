@@ -20,7 +20,14 @@ most() {
     if grep -q TELDRUF_NEIGHBOURS "$1/include/teldruf.h"; then echo 8; else echo 4; fi
 }
 
-# known ROOT: how many of the calls the library of a checkout knows, by their names in bench.h: those before the first map with a gap, or all
+# known ROOT: how many of the calls the library of a checkout knows, by their names in bench.h: those before the first map with a gap, those
+# before the dark map, or all
 known() {
-    if grep -q TELDRUF_GAP "$1/include/teldruf.h"; then echo PARTS; else echo MAP_4; fi
+    if grep -q TELDRUF_DARK "$1/include/teldruf.h"; then
+        echo PARTS
+    elif grep -q TELDRUF_GAP "$1/include/teldruf.h"; then
+        echo DARK
+    else
+        echo MAP_4
+    fi
 }

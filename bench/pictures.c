@@ -87,3 +87,14 @@ int picture_make(picture_t *picture, const char *name, uint32_t width, uint32_t 
             picture->greys[(size_t)row * width + column] = at(name, row, column);
     return 1;
 }
+
+int picture_reverse(picture_t *reversed, const picture_t *picture) {
+    size_t n = (size_t)picture->width * picture->height;
+    *reversed = *picture;
+    reversed->greys = malloc(n);
+    if (reversed->greys == NULL)
+        return 0;
+    for (size_t p = 0; p < n; p++)
+        reversed->greys[p] = 255 - picture->greys[p];
+    return 1;
+}

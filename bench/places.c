@@ -1,7 +1,8 @@
 /*
  * Two libraries, each at four places of the program, called in turn on pictures of 1,048,576 pixels by area. Prints for each call the ratio
- * of their times, each the mean over its places of the median of the rounds, and the least and the largest ratio of two places; and for a
- * map with a gap the same against the map at gap 0, both of the later library.
+ * of their times, each the mean over its places of the median of the rounds, and the least and the largest ratio of two places; and the
+ * same against another call, both of the later library: of a map with a gap against the map at gap 0, of the dark map against the map of the
+ * reversed picture, of the combined map against the map.
  *
  *   places [ROUNDS] [4|8]
  */
@@ -44,21 +45,21 @@ static void print_ratios(const char *kind, int part, int rounds, const char *oth
            least[1] / largest[0], largest[1] / least[0]);
 }
 
-/* The second side against the first. */
-static void compare(const picture_t *picture, const side_t sides[2], int rounds, const char *other, result_t *result) {
+/* The second side against the first. The pictures are the picture itself and the reversed one. */
+static void compare(const picture_t pictures[2], const side_t sides[2], int rounds, const char *other, result_t *result) {
     for (int round = 0; round < rounds; round++)
         for (int k = 0; k < 2 * PLACES; k++) {
             int which = (k + round) % (2 * PLACES), place = which / 2;
             side_t side = sides[which % 2];
             double start = milliseconds();
-            uint64_t answer = calls[side.library][place](side.part, picture, AREA, result);
+            uint64_t answer = calls[side.library][place](side.part, &pictures[side.part == REVERSED], AREA, result);
             times[which % 2][place][round] = milliseconds() - start;
             if (answer >> 32 != 0) {
                 fprintf(stderr, "places: a call was refused\n");
                 exit(2);
             }
         }
-    print_ratios(picture->name, sides[1].part, rounds, other);
+    print_ratios(pictures[0].name, sides[1].part, rounds, other);
 }
 
 int main(int count, char **words) {
@@ -71,17 +72,20 @@ int main(int count, char **words) {
     steps_make();
     result_t result = lend();
     for (int kind = 0; kind < KINDS; kind++) {
-        picture_t picture;
-        if (!picture_make(&picture, kinds[kind], SIDE, SIDE))
+        picture_t pictures[2];
+        if (!picture_make(&pictures[0], kinds[kind], SIDE, SIDE))
             return 2;
-        picture.neighbours = neighbours;
+        pictures[0].neighbours = neighbours;
+        if (!picture_reverse(&pictures[1], &pictures[0]))
+            return 2;
         for (int part = 0; part < PARTS; part++) {
             if (part < BEFORE_PARTS)
-                compare(&picture, (side_t[]){{BEFORE, part}, {LIBRARY, part}}, rounds, "before", &result);
-            if (gaps[part] > 0)
-                compare(&picture, (side_t[]){{LIBRARY, MAP}, {LIBRARY, part}}, rounds, "at gap 0", &result);
+                compare(pictures, (side_t[]){{BEFORE, part}, {LIBRARY, part}}, rounds, "before", &result);
+            if (beside[part] != 0)
+                compare(pictures, (side_t[]){{LIBRARY, beside[part]}, {LIBRARY, part}}, rounds, parts[beside[part]], &result);
         }
-        free(picture.greys);
+        free(pictures[0].greys);
+        free(pictures[1].greys);
     }
     return 0;
 }

@@ -1,4 +1,4 @@
-"""Checks the module python/teldruf.py, both hosts and the coloured index map, as examples/run has built them in a folder:
+"""Checks the module python/teldruf.py, both hosts and the pictures made of maps, as examples/run has built them in a folder:
 
     python3 examples/check.py FOLDER
 """
@@ -64,9 +64,36 @@ BY_NEIGHBOURS = {
 }
 
 
+# Bright floc with a darker pit, in a ring, and its maps at the steps 2 and 10, worked out by hand: light, dark, and both with the contrast.
+# In the pit the two residues are equal.
+PITTED = Picture(5, 5, 255, bytes(ringed(20, [80, 80, 80], [80, 50, 80], [80, 80, 80])))
+LIGHT = bytes(ringed(0, [60, 60, 60], [60, 30, 60], [60, 60, 60])), ringed(0, [2, 2, 2], [2, 2, 2], [2, 2, 2])
+DARK = bytes(ringed(0, [0, 0, 0], [0, 30, 0], [0, 0, 0])), ringed(0, [0, 0, 0], [0, 1, 0], [0, 0, 0])
+COMBINED = LIGHT[0], ringed(0, [2, 2, 2], [2, 1, 2], [2, 2, 2]), ringed(0, [60, 60, 60], [60, -30, 60], [60, 60, 60])
+
+
+def listed(maps):
+    """Residue, index and contrast as they stand above."""
+    return (maps[0], *(list(entries) for entries in maps[1:]))
+
+
 def index_bytes(index):
     """An index map as the hosts write it."""
     return b"".join(i.to_bytes(2, "big") for i in index)
+
+
+def contrast_bytes(contrast):
+    """A contrast as the hosts write it: orange where it is light, blue where it is dark."""
+    return b"".join(bytes((c, c // 2, 0) if c > 0 else (0, -c // 2, -c)) for c in contrast)
+
+
+def random_call(random):
+    """A picture in a ring, and the other words of a map call."""
+    width, height, count = random.randint(4, 12), random.randint(4, 12), random.randint(1, 12)
+    rows = [random.choices((0, 1, 2, 3, 100, 254, 255), k=width) for _ in range(height)]
+    picture = Picture(width + 2, height + 2, 255, bytes(ringed(random.choice((0, 3, 255)), *rows)))
+    words = {"attribute": random.randint(1, 3), "neighbours": random.choice((4, 8))}
+    return picture, sorted(random.sample(range(1, 20), count)), random.choice((0, 1, 2, 3, 5, 256)), words
 
 
 def largest_run(residues, gap):
@@ -146,15 +173,48 @@ class Module(unittest.TestCase):
     def test_maps_at_a_gap_are_the_largest_runs_between_openings(self):
         random = Random(19)
         for _ in range(100):
-            width, height, count = random.randint(4, 12), random.randint(4, 12), random.randint(1, 12)
-            rows = [random.choices(range(1, 7), k=width) for _ in range(height)]
-            picture = Picture(width + 2, height + 2, 255, bytes(ringed(0, *rows)))
-            words = {"attribute": random.randint(1, 3), "neighbours": random.choice((4, 8))}
-            steps, gap = sorted(random.sample(range(1, 20), count)), random.choice((0, 1, 2, 3, 5, 256))
+            picture, steps, gap, words = random_call(random)
             openings = [picture.raster] + [teldruf.open(picture, step, **words).raster for step in steps]
             falls = [[before - after for before, after in zip(*greys)] for greys in zip(openings, openings[1:])]
             maps = teldruf.map(picture, steps, gap=gap, **words)
             self.assertEqual(list(zip(maps.residue, maps.index)), [largest_run(residues, gap) for residues in zip(*falls)])
+
+    def test_dark_and_combined_maps_on_each_kind_of_buffer(self):
+        rows = memoryview(PITTED.raster).cast("B", (5, 5))
+        for picture in PITTED, PITTED._replace(raster=bytearray(PITTED.raster)), rows:
+            self.assertEqual(listed(teldruf.map(picture, [2, 10])), LIGHT)
+            self.assertEqual(listed(teldruf.dark_map(picture, [2, 10])), DARK)
+            combined = teldruf.combined_map(picture, [2, 10])
+            self.assertEqual(listed(combined), COMBINED)
+            self.assertEqual((combined.contrast.typecode, combined._fields), ("h", ("residue", "index", "contrast")))
+
+    def test_dark_maps_are_the_reversed_pictures_and_the_larger_residue_wins(self):
+        random = Random(16)
+        for _ in range(200):
+            picture, steps, gap, words = random_call(random)
+            words["gap"] = gap
+            turned = picture._replace(raster=bytes(255 - grey for grey in picture.raster))
+            light, dark = teldruf.map(picture, steps, **words), teldruf.dark_map(picture, steps, **words)
+            self.assertEqual(dark, teldruf.map(turned, steps, **words))
+            won = [(a, i, a) if a > b else (b, j, -b) for a, i, b, j in zip(*light, *dark)]
+            self.assertEqual(list(zip(*teldruf.combined_map(picture, steps, **words))), won)
+
+    def test_a_row_is_viewed_where_it_stands(self):
+        maps = bytes(range(12)), bytes(range(100, 112))
+        for row in range(3):
+            for name, number in teldruf.SIDES.items():
+                lent = maps[number - 1]
+                for side in name, number:
+                    view = teldruf.view_row(*maps, 4, 3, row, side)
+                    self.assertEqual((view, type(view), view.readonly), (lent[4 * row:4 * row + 4], memoryview, True))
+                    self.assertIs(view.obj, lent)
+        light, dark = bytearray(12), memoryview(bytearray(12)).cast("B", (3, 4))
+        rows = teldruf.view_row(light, dark, 4, 3, 1, "light"), teldruf.view_row(light, dark, 4, 3, 2, "dark")
+        light[4], dark[2, 3], rows[0][3] = 7, 8, 9
+        self.assertEqual([list(row) for row in rows], [[7, 0, 0, 9], [0, 0, 0, 8]])
+        self.assertEqual(light[7], 9)
+        largest = bytes(1048576)
+        self.assertEqual(len(teldruf.view_row(largest, largest, 4096, 256, 255, 2)), 4096)
 
     def test_refusals_have_number_and_words(self):
         long = bytes(1048577)
@@ -174,6 +234,22 @@ class Module(unittest.TestCase):
             (4, lambda: teldruf.map(ROW, [0], gap=257)),
             (19, lambda: teldruf.map(ROW, [1], gap=257)),
             (19, lambda: teldruf.map(ROW, [1], gap=2 ** 32 - 1)),
+            (1, lambda: teldruf.combined_map(ROW._replace(height=0), [1])),
+            (2, lambda: teldruf.dark_map(ROW._replace(raster=long), [1])),
+            (3, lambda: teldruf.combined_map(ROW, [1], 0, neighbours=5)),
+            (17, lambda: teldruf.dark_map(ROW, [], neighbours=5)),
+            (4, lambda: teldruf.combined_map(ROW, [2, 1], gap=257)),
+            (19, lambda: teldruf.dark_map(ROW, [1], gap=257)),
+            (19, lambda: teldruf.combined_map(ROW, [1], gap=257)),
+            (1, lambda: teldruf.view_row(b"", b"", 0, 7, 0, 1)),
+            (1, lambda: teldruf.view_row(b"", b"", 4097, 1, 1, 3)),
+            (6, lambda: teldruf.view_row(GREYS[1:], GREYS, 7, 3, 0, 2)),
+            (6, lambda: teldruf.view_row(GREYS, GREYS + b"0", 7, 3, 0, 1)),
+            (6, lambda: teldruf.view_row(b"", b"", 7, 3, 3, 0)),
+            (16, lambda: teldruf.view_row(GREYS, GREYS, 7, 3, 3, 1)),
+            (16, lambda: teldruf.view_row(GREYS, GREYS, 7, 3, 2 ** 32 - 1, 2)),
+            (16, lambda: teldruf.view_row(GREYS, GREYS, 7, 3, 0, 0)),
+            (16, lambda: teldruf.view_row(GREYS, GREYS, 7, 3, 0, 3)),
             (8, lambda: teldruf.read(b"")),
             (9, lambda: teldruf.read(FILE[:6])),
             (10, lambda: teldruf.write(ROW._replace(maximum=256))),
@@ -197,6 +273,12 @@ class Module(unittest.TestCase):
             lambda bad: teldruf.map(ROW, [bad]),
             lambda bad: teldruf.map(ROW, [1], neighbours=bad),
             lambda bad: teldruf.map(ROW, [1], gap=bad),
+            lambda bad: teldruf.dark_map(ROW, [bad]),
+            lambda bad: teldruf.combined_map(ROW, [1], gap=bad),
+            lambda bad: teldruf.view_row(GREYS, GREYS, bad, 3, 0, 1),
+            lambda bad: teldruf.view_row(GREYS, GREYS, 7, bad, 0, 1),
+            lambda bad: teldruf.view_row(GREYS, GREYS, 7, 3, bad, 1),
+            lambda bad: teldruf.view_row(GREYS, GREYS, 7, 3, 0, bad),
         ]
         for place, call in enumerate(places):
             for bad, kind in (-1, ValueError), (2 ** 32 + 5, ValueError), (True, TypeError), (5.0, TypeError), (None, TypeError):
@@ -213,6 +295,11 @@ class Module(unittest.TestCase):
             (TypeError, lambda: teldruf.map(GREYS, [1])),
             (TypeError, lambda: teldruf.build(ROW._replace(raster=list(GREYS)))),
             (TypeError, lambda: teldruf.build(ROW._replace(raster=memoryview(GREYS).cast("b")))),
+            (TypeError, lambda: teldruf.combined_map(GREYS, [1])),
+            (ValueError, lambda: teldruf.view_row(GREYS, GREYS, 7, 3, 0, "both")),
+            (TypeError, lambda: teldruf.view_row(list(GREYS), GREYS, 7, 3, 0, 1)),
+            (TypeError, lambda: teldruf.view_row(GREYS, memoryview(GREYS).cast("b"), 7, 3, 0, 1)),
+            (TypeError, lambda: teldruf.view_row(GREYS, memoryview(GREYS * 2)[::2], 7, 3, 0, 1)),
             (TypeError, lambda: teldruf.read("P5")),
             (OSError, lambda: teldruf.load(os.path.join(FOLDER, "missing.so"))),
         ]:
@@ -244,6 +331,17 @@ class Module(unittest.TestCase):
             self.assertEqual((got.dtype.name, got.shape, got.tolist()), ("uint32", (4,), REPRESENTATIVES))
             self.assertEqual(teldruf.write(image), FILE)
         self.assertEqual(teldruf.map(row.T, [6]).residue.shape, (7, 3))
+        pitted = numpy.frombuffer(PITTED.raster, numpy.uint8).reshape(5, 5)
+        dark, combined = teldruf.dark_map(pitted, [2, 10]), teldruf.combined_map(pitted, [2, 10])
+        for got, kind, expected in [(dark.residue, "uint8", list(DARK[0])), (dark.index, "uint16", DARK[1]),
+                                    (combined.residue, "uint8", list(COMBINED[0])), (combined.index, "uint16", COMBINED[1]),
+                                    (combined.contrast, "int16", COMBINED[2])]:
+            self.assertEqual((got.dtype.name, got.shape, got.ravel().tolist()), (kind, (5, 5), expected))
+        view = teldruf.view_row(combined.residue, dark.residue, 5, 5, 2, "dark")
+        dark.residue[2, 4] = 9
+        self.assertEqual(view.tolist(), [0, 0, 30, 0, 9])
+        with self.assertRaises(TypeError):
+            teldruf.view_row(combined.residue, dark.residue.T, 5, 5, 2, "light")
         for bad in row.astype(float), row.astype(bool), row.astype("uint16"), row[0], numpy.array(3, numpy.uint8):
             with self.assertRaises(TypeError):
                 teldruf.map(bad, [1])
@@ -259,6 +357,7 @@ class Hosts(unittest.TestCase):
         self.folder = folder.name
         self.picture = self.file("row.pgm", FILE)
         self.out = self.path("residue.pgm"), self.path("index.pgm")
+        self.contrast = self.path("contrast.ppm")
 
     def path(self, name):
         return os.path.join(self.folder, name)
@@ -268,9 +367,10 @@ class Hosts(unittest.TestCase):
             file.write(contents)
         return self.path(name)
 
-    def contents(self):
+    def contents(self, *more):
+        """What the hosts wrote, and then removed."""
         found = []
-        for name in self.out:
+        for name in (*self.out, *more):
             with open(name, "rb") as file:
                 found.append(file.read())
             os.remove(name)
@@ -300,6 +400,33 @@ class Hosts(unittest.TestCase):
                 subprocess.run([*host, self.picture, *self.out, "area", *words, "1", "2", "3", "4"], check=True)
                 self.assertEqual(self.contents(), [b"P5\n7 3\n255\n" + residue, b"P5\n7 3\n256\n" + index_bytes(index)])
 
+    def test_dark_and_combined_maps(self):
+        picture = self.file("pitted.pgm", b"P5\n5 5\n255\n" + PITTED.raster)
+        residue_head, index_head, contrast_head = b"P5\n5 5\n255\n", b"P5\n5 5\n256\n", b"P6\n5 5\n255\n"
+        for host in HOSTS:
+            for words in [], ["neighbours=8"], ["gap=1"], ["neighbours=4", "gap=256"]:
+                subprocess.run([*host, "--dark", picture, *self.out, "area", *words, "2", "10"], check=True)
+                self.assertEqual(self.contents(), [residue_head + DARK[0], index_head + index_bytes(DARK[1])])
+                self.assertFalse(os.path.exists(self.contrast))
+                subprocess.run([*host, "--combined", self.contrast, picture, *self.out, "area", *words, "2", "10"], check=True)
+                residue, index, contrast = COMBINED
+                self.assertEqual(self.contents(self.contrast), [residue_head + residue, index_head + index_bytes(index),
+                                                                contrast_head + contrast_bytes(contrast)])
+
+    def test_every_contrast_has_its_colour(self):
+        greys = [grey for c in range(1, 256) for grey in (0, c, 0, 255, 255 - c, 255)]
+        rows = [0 if p % 6 < 3 else 255 for p in range(len(greys))]  # the same without the pixel that stands out
+        picture = self.file("contrasts.pgm", b"P5 1530 3 255\n" + bytes(rows + greys + rows))
+        for host in HOSTS:
+            subprocess.run([*host, "--combined", self.contrast, picture, *self.out, "area", "2"], check=True)
+            head, found = b"P6\n1530 3\n255\n", self.contents(self.contrast)[2]
+            self.assertEqual(found[:len(head)], head)
+            middle = found[len(head) + 3 * 1530:]
+            for c in range(1, 256):
+                at = 18 * (c - 1)
+                self.assertEqual(middle[at + 3:at + 6], bytes((c, c // 2, 0)))
+                self.assertEqual(middle[at + 12:at + 15], bytes((0, c // 2, c)))
+
     def test_corners_join_with_8_neighbours(self):
         picture = self.file("corners.pgm", CORNERS_FILE)
         for host in HOSTS:
@@ -317,6 +444,16 @@ class Hosts(unittest.TestCase):
                 found.append(self.contents())
         self.assertEqual(found[:3], found[3:])
         self.assertTrue(all(len(set(maps)) == 3 for maps in zip(*found[:3])))
+
+    def test_hosts_agree_on_a_back_lit_basin(self):
+        found = []
+        for host in HOSTS:
+            for sides, more in (["--dark"], []), (["--combined", self.contrast], [self.contrast]):
+                words = "width", "neighbours=8", "gap=1", "2", "4", "8", "16"
+                subprocess.run([*host, *sides, os.path.join(FOLDER, "backlit.pgm"), *self.out, *words], check=True)
+                found.append(self.contents(*more))
+        self.assertEqual(found[:2], found[2:])
+        self.assertTrue(all(dark != combined for dark, combined in zip(*found[:2])))
 
     def test_every_index_is_kept(self):
         picture = self.file("long.pgm", b"P5 258 3 9\n" + bytes(258) + b"\0" + b"\x09" * 255 + b"\0\0" + bytes(258))
@@ -339,11 +476,31 @@ class Hosts(unittest.TestCase):
             ("1", "gap=2"), ("gap=2", "gap=2", "1"), ("gap=2", "neighbours=8", "1"), ("gap", "1"), ("Gap=2", "1"),
         ]:
             self.fails(2, "' is no step", self.picture, *self.out, "area", *words)
+        files = self.picture, *self.out
+        for word, words in [
+            ("--combined", ("--dark", "--combined", self.contrast, *files)),
+            ("--dark", ("--combined", self.contrast, "--dark", *files)),
+            ("--dark", ("--combined", "--dark", *files)),
+            ("--dark", ("--dark", "--dark", *files)),
+            ("--dark", (self.picture, "--dark", self.out[0])),
+            ("--combined", (*self.out, "--combined")),
+            ("--light", ("--light", *files)),
+            ("--dark=", ("--dark=", *files)),
+            ("--", ("--", *files)),
+        ]:
+            self.fails(2, f"'{word}' is no file", *words, "area", "1", "2")
+        self.fails(2, "'1' is no attribute", "--combined", *files, "area", "1", "2")  # without the contrast's file
+        self.fails(2, "'--dark' is no step", *files, "area", "1", "--dark")
         for host in HOSTS:
-            for words in (), (*self.out, "area"), (*self.out, "area", "neighbours=8"), (*self.out, "area", "gap=2"):
-                ended = subprocess.run([*host, self.picture, *words], capture_output=True, text=True)
+            for words in [
+                [], files, [*files, "area"], [*files, "area", "neighbours=8"], [*files, "area", "gap=2"],
+                ["--dark"], ["--dark", *files, "area"], ["--combined"], ["--combined", self.contrast],
+                ["--combined", self.contrast, *files, "area"], ["--combined", *files, "area", "1"],
+            ]:
+                ended = subprocess.run([*host, *words], capture_output=True, text=True)
                 self.assertEqual(ended.returncode, 2)
                 self.assertIn("usage: ", ended.stderr)
+        self.assertFalse(any(os.path.exists(name) for name in (*self.out, self.contrast)))
 
     def test_refusals(self):
         for number, words, contents in [
@@ -359,8 +516,9 @@ class Hosts(unittest.TestCase):
             (19, ("gap=4294967295", "1"), FILE),
         ]:
             picture = self.file("refused.pgm", contents)
-            self.fails(1, f"refused {number}: {teldruf.cause_text(number)}", picture, *self.out, "area", *words)
-        self.assertFalse(any(os.path.exists(name) for name in self.out))
+            for sides in [], ["--dark"], ["--combined", self.contrast]:
+                self.fails(1, f"refused {number}: {teldruf.cause_text(number)}", *sides, picture, *self.out, "area", *words)
+        self.assertFalse(any(os.path.exists(name) for name in (*self.out, self.contrast)))
 
     def test_files_that_cannot_be_read(self):
         self.fails(1, "cannot be read: Is a directory", self.folder, *self.out, "area", "1")
@@ -372,6 +530,8 @@ class Hosts(unittest.TestCase):
         for picture in self.picture, large:
             self.fails(1, "/dev/full: cannot be written whole: No space", picture, "/dev/full", self.out[1], "area", "1")
             self.fails(1, "/dev/full: cannot be written whole: No space", picture, self.out[0], "/dev/full", "area", "1")
+        for name, words in ("/dev/full", "cannot be written whole: No space"), ("", "cannot be written: No such file"):
+            self.fails(1, f"{name}: {words}", "--combined", name, self.picture, *self.out, "area", "1")
         missing = os.path.join(self.path("missing"), "residue.pgm")
         self.fails(1, "cannot be written: No such file", self.picture, missing, self.out[1], "area", "1")
 
@@ -382,6 +542,16 @@ class Hosts(unittest.TestCase):
 
 
 class Colours(unittest.TestCase):
+    def test_pictures_keep_their_samples(self):
+        for name, head, across, colour in ("basin.pgm", b"P5\n512 384\n255\n", 512, 0), ("contrast.ppm", b"P6\n512 384\n255\n", 1536, 2):
+            with open(os.path.join(FOLDER, name), "rb") as file, open(os.path.join(FOLDER, name[:-3] + "png"), "rb") as made:
+                contents, png = file.read(), made.read()
+            self.assertEqual((contents[:len(head)], *struct.unpack(">IIBB", png[16:26])), (head, 512, 384, 8, colour))
+            raster = contents[len(head):]
+            packed = struct.unpack(">I", png[33:37])[0]
+            rows = [b"\0" + raster[at:at + across] for at in range(0, len(raster), across)]
+            self.assertEqual(zlib.decompress(png[41:41 + packed]), b"".join(rows))
+
     def test_any_size_and_number_of_steps(self):
         for width, height, count in (1, 1, 1), (3, 1, 2), (300, 2, 16), (2, 300, 17), (4096, 3, 256):
             with self.subTest(width=width, height=height, count=count):

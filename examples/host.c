@@ -1,10 +1,12 @@
 /*
  * Maps a picture of any size within the bounds: the residue map and the index map of a PGM file, as PGM files.
  *
- *   host PICTURE RESIDUE INDEX area|height|width [neighbours=4|8] [gap=GAP] STEP..
+ *   host [--dark | --combined CONTRAST] PICTURE RESIDUE INDEX area|height|width [neighbours=4|8] [gap=GAP] STEP..
  *
- * The residue map has a byte a sample, the index map two, the high one first, and the maximum 256, so that every index is kept. The
- * exit status is 0 if both maps are written, 1 if the library refuses or a file cannot be read or written, 2 if the words are wrong.
+ * The maps are of light floc, with --dark of dark floc, with --combined of both. The residue map has a byte a sample, the index map
+ * two, the high one first, and the maximum 256, so that every index is kept. The contrast is a picture for people, a PPM file: light
+ * floc in orange, dark floc in blue, the brighter the larger its residue, and black where there is none. The exit status is 0 if all
+ * files are written, 1 if the library refuses or a file cannot be read or written, 2 if the words are wrong.
  */
 #include "teldruf.h"
 
@@ -26,6 +28,15 @@ typedef struct {
     size_t n;
     const uint8_t *greys;
 } picture_t;
+
+/* What the words ask for. */
+typedef struct {
+    int dark;
+    const char *contrast; /* a file if light and dark are combined, else null */
+    const char *picture, *residue, *index;
+    uint32_t attribute, neighbours, gap, *steps;
+    size_t steps_len;
+} task_t;
 
 /* Ends the program with a sentence. */
 static _Noreturn void fail(int status, const char *form, ...) {
@@ -106,6 +117,20 @@ static void write_index(const char *name, const picture_t *picture, const uint16
     free(file);
 }
 
+/* For each pixel red, green and blue. */
+static void write_contrast(const char *name, const picture_t *picture, const int16_t *contrast) {
+    uint8_t *file = lend(64 + 3 * picture->n, 1);
+    size_t length = (size_t)sprintf((char *)file, "P6\n%u %u\n255\n", (unsigned)picture->width, (unsigned)picture->height);
+    for (size_t p = 0; p < picture->n; p++) {
+        int light = contrast[p] > 0 ? contrast[p] : 0, dark = contrast[p] < 0 ? -contrast[p] : 0;
+        file[length++] = (uint8_t)light;
+        file[length++] = (uint8_t)((light + dark) / 2);
+        file[length++] = (uint8_t)dark;
+    }
+    write_file(name, file, length);
+    free(file);
+}
+
 static uint32_t attribute_named(const char *word) {
     const char *const words[] = {"area", "height", "width"};
     for (uint32_t a = 0; a < 3; a++)
@@ -152,28 +177,54 @@ static uint32_t gap_named(const char *word) {
     return gap;
 }
 
-int main(int count, char **words) {
-    int second = 5 + starts(count, words, 5, naming_neighbours);   /* where a gap may be named */
-    int first = second + starts(count, words, second, naming_gap); /* where the steps start */
-    if (count <= first)
-        fail(WRONG_USE, "usage: PICTURE RESIDUE INDEX area|height|width [neighbours=4|8] [gap=GAP] STEP..");
-    uint32_t attribute = attribute_named(words[4]);
-    uint32_t neighbours = second > 5 ? neighbours_named(words[5]) : TELDRUF_EDGES;
-    uint32_t gap = first > second ? gap_named(words[second]) : 0;
-    size_t steps_len = (size_t)(count - first);
-    uint32_t *steps = lend(steps_len, sizeof *steps);
-    for (size_t i = 0; i < steps_len; i++)
-        steps[i] = step_of(words[(size_t)first + i]);
+static const char *file_named(const char *word) {
+    if (strncmp(word, "--", 2) == 0)
+        fail(WRONG_USE, "'%s' is no file: one of --dark and --combined may stand first, and nothing else starts with --", word);
+    return word;
+}
 
-    picture_t picture = read_picture(words[1]);
+static task_t read_words(int count, char **words) {
+    int dark = count > 1 && strcmp(words[1], "--dark") == 0, combined = count > 1 && strcmp(words[1], "--combined") == 0;
+    int files = 1 + dark + 2 * combined;                                         /* where the picture is named */
+    int second = files + 4 + starts(count, words, files + 4, naming_neighbours); /* where a gap may be named */
+    int first = second + starts(count, words, second, naming_gap);               /* where the steps start */
+    if (count <= first)
+        fail(WRONG_USE, "usage: [--dark | --combined CONTRAST] PICTURE RESIDUE INDEX area|height|width [neighbours=4|8] [gap=GAP] "
+                        "STEP..");
+    task_t task = {.dark = dark, .contrast = combined ? file_named(words[2]) : NULL};
+    task.picture = file_named(words[files]);
+    task.residue = file_named(words[files + 1]);
+    task.index = file_named(words[files + 2]);
+    task.attribute = attribute_named(words[files + 3]);
+    task.neighbours = second > files + 4 ? neighbours_named(words[files + 4]) : TELDRUF_EDGES;
+    task.gap = first > second ? gap_named(words[second]) : 0;
+    task.steps_len = (size_t)(count - first);
+    task.steps = lend(task.steps_len, sizeof *task.steps);
+    for (size_t i = 0; i < task.steps_len; i++)
+        task.steps[i] = step_of(words[(size_t)first + i]);
+    return task;
+}
+
+int main(int count, char **words) {
+    task_t task = read_words(count, words);
+    picture_t picture = read_picture(task.picture);
     size_t n = picture.n, workspace_len = TELDRUF_WORDS_A_PIXEL * n;
     uint32_t *workspace = lend(workspace_len, sizeof *workspace);
     uint8_t *residue = lend(n, 1);
     uint16_t *index = lend(n, sizeof *index);
-    accepted(teldruf_map(picture.greys, n, picture.width, picture.height, attribute, neighbours, steps, steps_len, gap, workspace,
-                         workspace_len, residue, n, index, n),
-             words[1]);
-    write_residue(words[2], &picture, residue);
-    write_index(words[3], &picture, index);
+    int16_t *contrast = lend(n, sizeof *contrast);
+    uint64_t answer;
+    if (task.contrast != NULL)
+        answer = teldruf_combined_map(picture.greys, n, picture.width, picture.height, task.attribute, task.neighbours, task.steps,
+                                      task.steps_len, task.gap, workspace, workspace_len, residue, n, index, n, contrast, n);
+    else
+        answer = (task.dark ? teldruf_dark_map : teldruf_map)(picture.greys, n, picture.width, picture.height, task.attribute,
+                                                              task.neighbours, task.steps, task.steps_len, task.gap, workspace,
+                                                              workspace_len, residue, n, index, n);
+    accepted(answer, task.picture);
+    write_residue(task.residue, &picture, residue);
+    write_index(task.index, &picture, index);
+    if (task.contrast != NULL)
+        write_contrast(task.contrast, &picture, contrast);
     return 0;
 }

@@ -1,15 +1,16 @@
 """Maps a picture as host.c does, through the module python/teldruf.py and a shared library that is made from the static one:
 
     gcc -shared -o libteldruf.so -Wl,--whole-archive target/staticlib/libteldruf.a -Wl,--no-whole-archive
-    python3 examples/host.py ./libteldruf.so PICTURE RESIDUE INDEX area|height|width [neighbours=4|8] [gap=GAP] STEP..
+    python3 examples/host.py ./libteldruf.so [--dark | --combined CONTRAST] PICTURE RESIDUE INDEX \\
+        area|height|width [neighbours=4|8] [gap=GAP] STEP..
 
-The residue map has a byte a sample, the index map two, the high one first, and the maximum 256, so that every index is kept. The
-exit status is 0 if both maps are written, 1 if the library refuses or a file cannot be read or written, 2 if the words are wrong.
+What the words mean, the files that are written and the exit status are host.c's.
 """
 
 import os
 import re
 import sys
+from typing import List, NamedTuple, Optional
 
 sys.path.insert(0, os.path.join(os.path.dirname(os.path.abspath(__file__)), os.pardir, "python"))
 import teldruf
@@ -61,6 +62,13 @@ def index_file(picture, index):
     return head + index.tobytes()
 
 
+def contrast_file(picture, contrast):
+    """For each pixel red, green and blue: light floc in orange, dark floc in blue."""
+    head = f"P6\n{picture.width} {picture.height}\n255\n".encode()
+    colours = {c: bytes((max(c, 0), abs(c) // 2, max(-c, 0))) for c in range(-255, 256)}
+    return head + b"".join([colours[c] for c in contrast])
+
+
 def is_number(word):
     """A number is 1 to 10 digits and nothing else, and has 32 bits; whether it is a step, 4 or 8, or a gap, the library judges."""
     return re.fullmatch("[0-9]{1,10}", word) is not None and int(word) < 2 ** 32
@@ -91,30 +99,69 @@ def gap_named(word):
     return int(number)
 
 
-def main(words):
-    second = 5 + starts(words, 5, NAMING_NEIGHBOURS)  # where a gap may be named
+def file_named(word):
+    if word.startswith("--"):
+        raise Failure(WRONG_USE, f"'{word}' is no file: one of --dark and --combined may stand first, and nothing else starts with --")
+    return word
+
+
+class Task(NamedTuple):
+    """What the words ask for; contrast is a file if light and dark are combined, else None."""
+
+    dark: bool
+    contrast: Optional[str]
+    picture: str
+    residue: str
+    index: str
+    attribute: str
+    neighbours: int
+    gap: int
+    steps: List[int]
+
+
+def read_words(words):
+    """The words after the library, which is the first."""
+    dark, combined = words[1:2] == ["--dark"], words[1:2] == ["--combined"]
+    files = 1 + dark + 2 * combined  # where the picture is named
+    second = files + 4 + starts(words, files + 4, NAMING_NEIGHBOURS)  # where a gap may be named
     first = second + starts(words, second, NAMING_GAP)  # where the steps start
     if len(words) <= first:
-        raise Failure(WRONG_USE, "usage: LIBRARY PICTURE RESIDUE INDEX area|height|width [neighbours=4|8] [gap=GAP] STEP..")
-    library, picture_name, residue_name, index_name, attribute = words[:5]
+        raise Failure(WRONG_USE, "usage: LIBRARY [--dark | --combined CONTRAST] PICTURE RESIDUE INDEX area|height|width "
+                                 "[neighbours=4|8] [gap=GAP] STEP..")
+    contrast = file_named(words[2]) if combined else None
+    picture, residue, index = [file_named(word) for word in words[files:files + 3]]
+    attribute = words[files + 3]
     if attribute not in teldruf.ATTRIBUTES:
         raise Failure(WRONG_USE, f"'{attribute}' is no attribute: area, height or width")
-    neighbours = neighbours_named(words[5]) if second > 5 else 4
+    neighbours = neighbours_named(words[files + 4]) if second > files + 4 else 4
     gap = gap_named(words[second]) if first > second else 0
     steps = [step_of(word) for word in words[first:]]
+    return Task(dark, contrast, picture, residue, index, attribute, neighbours, gap, steps)
+
+
+def call_of(task):
+    if task.contrast is not None:
+        return teldruf.combined_map
+    return teldruf.dark_map if task.dark else teldruf.map
+
+
+def main(words):
+    task = read_words(words)
     try:
-        teldruf.load(library)
+        teldruf.load(words[0])
     except OSError as fault:
-        raise Failure(REFUSED, f"{library}: cannot be loaded: {fault}")
-    contents = read_file(picture_name)
+        raise Failure(REFUSED, f"{words[0]}: cannot be loaded: {fault}")
+    contents = read_file(task.picture)
     try:
         picture = teldruf.read(contents)
-        residue, index = teldruf.map(picture, steps, attribute, neighbours=neighbours, gap=gap)
-        residue_file = teldruf.write(picture._replace(maximum=255, raster=residue))
+        maps = call_of(task)(picture, task.steps, task.attribute, neighbours=task.neighbours, gap=task.gap)
+        residue_file = teldruf.write(picture._replace(maximum=255, raster=maps.residue))
     except teldruf.Refused as refusal:
-        raise Failure(REFUSED, f"{picture_name}: {refusal}")
-    write_file(residue_name, residue_file)
-    write_file(index_name, index_file(picture, index))
+        raise Failure(REFUSED, f"{task.picture}: {refusal}")
+    write_file(task.residue, residue_file)
+    write_file(task.index, index_file(picture, maps.index))
+    if task.contrast is not None:
+        write_file(task.contrast, contrast_file(picture, maps.contrast))
 
 
 if __name__ == "__main__":

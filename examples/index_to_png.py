@@ -10,7 +10,7 @@ the first and last step of each part.
 import re
 import sys
 
-from pgm_to_png import RGB, png, read_pgm, run, wrong_use
+from pgm_to_png import RGB, png, read_picture, run, wrong_use
 
 MOST_INDEX = 256
 MOST_GAP = 256
@@ -139,7 +139,7 @@ def main(words):
     first = first_step(words)
     if len(words) <= first or not all(word.isdecimal() for word in words[first:]) or words[2] not in ("area", "height", "width"):
         wrong_use(__doc__)
-    width, height, raster = read_pgm(words[0], MOST_INDEX)
+    _, width, height, raster = read_picture(words[0], ["P5"], MOST_INDEX)
     index, steps = index_of(raster), [int(word) for word in words[first:]]
     if len(raster) != 2 * width * height or not index or max(index) > len(steps):
         sys.exit(f"{words[0]}: not an index map of {len(steps)} steps")

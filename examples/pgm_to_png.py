@@ -1,6 +1,7 @@
-"""Turns a binary PGM file into a grey PNG file, as the README shows pictures:
+"""Turns a binary PGM file into a grey PNG file, and a binary PPM file into one of colours, as the README shows pictures:
 
     python3 examples/pgm_to_png.py PICTURE.pgm PICTURE.png
+    python3 examples/pgm_to_png.py CONTRAST.ppm CONTRAST.png
 
 It reads what the examples write: a header without comments and a maximum of 255.
 """
@@ -24,14 +25,14 @@ def run(main):
         sys.exit(f"{fault.filename}: {fault.strerror}")
 
 
-def read_pgm(name, maximum):
-    """Width, height and raster of a file that an example wrote with this maximum."""
+def read_picture(name, signs, maximum):
+    """Sign, width, height and raster of a file that an example wrote with one of these signs and this maximum."""
     with open(name, "rb") as file:
         contents = file.read()
-    head = re.match(rb"P5\s+(\d+)\s+(\d+)\s+(\d+)\s", contents)
-    if head is None or int(head[3]) != maximum:
-        sys.exit(f"{name}: not a PGM file of maximum {maximum} without comments")
-    return int(head[1]), int(head[2]), contents[head.end():]
+    head = re.match(rb"(P\d)\s+(\d+)\s+(\d+)\s+(\d+)\s", contents)
+    if head is None or head[1].decode() not in signs or int(head[4]) != maximum:
+        sys.exit(f"{name}: not a {' or '.join(signs)} file of maximum {maximum} without comments")
+    return head[1].decode(), int(head[2]), int(head[3]), contents[head.end():]
 
 
 def chunk(name, contents):
@@ -40,6 +41,7 @@ def chunk(name, contents):
 
 
 GREY, RGB = 0, 2
+COLOURS = {"P5": (GREY, 1), "P6": (RGB, 3)}  # and the samples a pixel
 
 
 def png(width, height, colour, rows):
@@ -52,12 +54,14 @@ def png(width, height, colour, rows):
 def main(words):
     if len(words) != 2:
         wrong_use(__doc__)
-    width, height, raster = read_pgm(words[0], 255)
-    if len(raster) != width * height or not raster:
-        sys.exit(f"{words[0]}: not {width} x {height} bytes of raster")
-    rows = [raster[y * width:(y + 1) * width] for y in range(height)]
+    sign, width, height, raster = read_picture(words[0], COLOURS, 255)
+    colour, samples = COLOURS[sign]
+    across = samples * width
+    if len(raster) != across * height or not raster:
+        sys.exit(f"{words[0]}: not {across} x {height} bytes of raster")
+    rows = [raster[y * across:(y + 1) * across] for y in range(height)]
     with open(words[1], "wb") as file:
-        file.write(png(width, height, GREY, rows))
+        file.write(png(width, height, colour, rows))
 
 
 if __name__ == "__main__":

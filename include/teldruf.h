@@ -35,6 +35,7 @@ enum {
     TELDRUF_MAXIMUM = 10,
     TELDRUF_RASTER_LENGTH = 11,
     TELDRUF_SAMPLE = 12,
+    TELDRUF_VIEW = 16,
     TELDRUF_NEIGHBOURS = 17,
     TELDRUF_GAP = 19
 };
@@ -53,6 +54,12 @@ enum {
 enum {
     TELDRUF_EDGES = 4,  /* the pixels that share an edge with it */
     TELDRUF_CORNERS = 8 /* and those that share a corner */
+};
+
+/* The two sides of the contrast, each with its residue map. */
+enum {
+    TELDRUF_LIGHT = 1, /* floc lighter than the water around it */
+    TELDRUF_DARK = 2   /* floc darker than it */
 };
 
 enum {
@@ -85,7 +92,7 @@ static inline const char *teldruf_cause_text(uint32_t number) {
     case TELDRUF_WORKSPACE:
         return "workspace not 7 words a pixel";
     case TELDRUF_OUTPUT_LENGTH:
-        return "an output not one entry a pixel";
+        return "an output or a map not one entry a pixel";
     case TELDRUF_BUFFER:
         return "the writer's buffer shorter than the file";
     case TELDRUF_SIGN:
@@ -98,6 +105,8 @@ static inline const char *teldruf_cause_text(uint32_t number) {
         return "raster bytes not width x height";
     case TELDRUF_SAMPLE:
         return "a sample above the maximum";
+    case TELDRUF_VIEW:
+        return "row or side outside its range";
     case TELDRUF_NEIGHBOURS:
         return "neighbourhood neither 4 nor 8";
     case TELDRUF_GAP:
@@ -129,8 +138,8 @@ uint64_t teldruf_write_pgm(const uint8_t *picture, size_t picture_len, uint32_t 
  * position. A representative's parent is the position of its parent's representative (the root's is its own) and its attribute is the
  * node's; any other pixel's parent is its representative and its attribute is 0. The list has the representatives by rising level,
  * lower position first within a level, as many as the answer says, and zeros after the last: the root comes first, and every parent
- * before its children. Position 0 is always among them, at any place, so a 0 does not end the list; after teldruf_open and
- * teldruf_map its length is the number of attributes that are not 0. Refused, in this order: 1, 2, 3, 17, 5.
+ * before its children. Position 0 is always among them, at any place, so a 0 does not end the list; after teldruf_open and the three
+ * map calls its length is the number of attributes that are not 0. Refused, in this order: 1, 2, 3, 17, 5.
  */
 uint64_t teldruf_build(const uint8_t *picture, size_t picture_len, uint32_t width, uint32_t height, uint32_t attribute,
                        uint32_t neighbours, uint32_t *workspace, size_t workspace_len);
@@ -159,6 +168,41 @@ uint64_t teldruf_open(const uint8_t *picture, size_t picture_len, uint32_t width
 uint64_t teldruf_map(const uint8_t *picture, size_t picture_len, uint32_t width, uint32_t height, uint32_t attribute,
                      uint32_t neighbours, const uint32_t *steps, size_t steps_len, uint32_t gap, uint32_t *workspace,
                      size_t workspace_len, uint8_t *residue, size_t residue_len, uint16_t *index, size_t index_len);
+
+/*
+ * Gives the maps of dark floc on light water: what teldruf_map gives for the reversed picture, 255 less each grey. Lent, answered and
+ * refused as there. Accepted, the workspace holds the record of the reversed picture.
+ */
+uint64_t teldruf_dark_map(const uint8_t *picture, size_t picture_len, uint32_t width, uint32_t height, uint32_t attribute,
+                          uint32_t neighbours, const uint32_t *steps, size_t steps_len, uint32_t gap, uint32_t *workspace,
+                          size_t workspace_len, uint8_t *residue, size_t residue_len, uint16_t *index, size_t index_len);
+
+/*
+ * Gives the maps of light and dark floc together. At each pixel the side of larger residue wins, light as teldruf_map has it or dark
+ * as teldruf_dark_map; where the two are equal, dark does. Lent, answered and refused as teldruf_map, with one output more: the
+ * contrast, exactly n entries of 16 bits with a sign, which may hold anything. Accepted, the residue map and the index map hold what
+ * the side that won has there, the contrast holds the residue where light won and its negative where dark did, so 0 where both are 0,
+ * and the workspace the record of the reversed picture.
+ */
+uint64_t teldruf_combined_map(const uint8_t *picture, size_t picture_len, uint32_t width, uint32_t height, uint32_t attribute,
+                              uint32_t neighbours, const uint32_t *steps, size_t steps_len, uint32_t gap, uint32_t *workspace,
+                              size_t workspace_len, uint8_t *residue, size_t residue_len, uint16_t *index, size_t index_len,
+                              int16_t *contrast, size_t contrast_len);
+
+/*
+ * Finds a row, from 0, in the residue map of one side or the other; nothing is copied. Lent: the light residue map and the dark one,
+ * exactly n bytes each, both only read, and both whichever side is named. Accepted: the answer is where the row starts in the map of
+ * that side, and it has width bytes; teldruf_row makes a pointer of it. Refused, in this order: 1, 6, 16.
+ */
+uint64_t teldruf_view_row(const uint8_t *light, size_t light_len, const uint8_t *dark, size_t dark_len, uint32_t width,
+                          uint32_t height, uint32_t row, uint32_t side);
+
+/* The first byte of the row that teldruf_view_row answers for these maps and this side, in the lent map; null if it was refused. */
+static inline const uint8_t *teldruf_row(const uint8_t *light, const uint8_t *dark, uint32_t side, uint64_t answer) {
+    if (teldruf_cause(answer) != 0)
+        return NULL;
+    return (side == TELDRUF_LIGHT ? light : dark) + (size_t)answer;
+}
 
 #ifdef __cplusplus
 }

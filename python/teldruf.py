@@ -7,6 +7,7 @@
 Neighbours are the 4 pixels that share an edge with a pixel; with neighbours=8 those that share a corner are neighbours too.
 What touches the first or last row or column has the size 1,048,577 by every attribute, so no threshold removes it.
 Blurred floc falls at several steps; with a gap above 0, falls at most so many places of the list apart are added up.
+Dark floc on light water has maps of its own, `dark_map`, and `combined_map` takes at each pixel the side of larger contrast.
 
 A picture is a Picture, whose raster is bytes or another buffer of bytes (bytearray, memoryview, numpy array of uint8), or a buffer
 of bytes with rows and columns, such as a numpy array of two dimensions. Results are bytes or arrays, row by row; where the greys
@@ -27,9 +28,11 @@ import sys
 from array import array
 from typing import Any, NamedTuple
 
-__all__ = ["ATTRIBUTES", "Maps", "Picture", "Refused", "Tree", "build", "cause_text", "load", "map", "open", "read", "write"]
+__all__ = ["ATTRIBUTES", "CombinedMaps", "Maps", "Picture", "Refused", "SIDES", "Tree", "build", "cause_text", "combined_map",
+           "dark_map", "load", "map", "open", "read", "view_row", "write"]
 
 ATTRIBUTES = {"area": 1, "height": 2, "width": 3}
+SIDES = {"light": 1, "dark": 2}
 
 # The words of include/teldruf.h.
 _CAUSES = {
@@ -39,13 +42,14 @@ _CAUSES = {
     3: "attribute not 1, 2 or 3 (area, height or width)",
     4: "threshold outside 1 to 1,048,577, or step list empty, over 256 or not strictly rising",
     5: "workspace not 7 words a pixel",
-    6: "an output not one entry a pixel",
+    6: "an output or a map not one entry a pixel",
     7: "the writer's buffer shorter than the file",
     8: "the file does not start with P5, so it is no binary PGM",
     9: "the header broken or ended early",
     10: "maximum 0 or above 255",
     11: "raster bytes not width x height",
     12: "a sample above the maximum",
+    16: "row or side outside its range",
     17: "neighbourhood neither 4 nor 8",
     19: "gap above 256",
 }
@@ -99,6 +103,15 @@ class Maps(NamedTuple):
     index: Any
 
 
+class CombinedMaps(NamedTuple):
+    """At each pixel the residue and the index of the side of larger residue, dark where the two are equal, and the contrast: the
+    residue where light won, its negative where dark did."""
+
+    residue: Any
+    index: Any
+    contrast: Any
+
+
 def read(file):
     """The Picture in the bytes of a binary PGM file; its raster is bytes."""
     file = _bytes(file, "a file")
@@ -142,12 +155,37 @@ def map(picture, steps, attribute="area", *, neighbours=4, gap=0):
     """The Maps of a picture, residue and index, for strictly rising steps. An index is a place in the list: its size is
     steps[index - 1]. Two residues that are not 0, with only 0 between them, belong to one run if their places in the list differ by at
     most the gap, 0 to 256."""
+    return Maps(*_mapped("map", "BH", picture, steps, attribute, neighbours, gap))
+
+
+def dark_map(picture, steps, attribute="area", *, neighbours=4, gap=0):
+    """The Maps of dark floc on light water: those of the reversed picture, 255 less each grey."""
+    return Maps(*_mapped("dark_map", "BH", picture, steps, attribute, neighbours, gap))
+
+
+def combined_map(picture, steps, attribute="area", *, neighbours=4, gap=0):
+    """The CombinedMaps of a picture, light and dark floc together: residue, index and contrast."""
+    return CombinedMaps(*_mapped("combined_map", "BHh", picture, steps, attribute, neighbours, gap))
+
+
+def view_row(light, dark, width, height, row, side):
+    """A row, from 0, of the light residue map or the dark one, by the side: "light" or "dark", 1 or 2. It is a memoryview of the map
+    itself: nothing is copied."""
+    maps = _whole(light, "a light map"), _whole(dark, "a dark map")
+    width, height, row = _word(width, "a width"), _word(height, "a height"), _word(row, "a row")
+    side = _named(side, SIDES, "a side")
+    start = _call("view_row", *_lend_view(maps[0]), *_lend_view(maps[1]), width, height, row, side)
+    return maps[side - 1].cast("B")[start:start + width]
+
+
+def _mapped(name, codes, picture, steps, attribute, neighbours, gap):
+    """The outputs of a map call, whose entries have these codes of `array`."""
     picture, greys = _taken(picture)
     listed = array("I", [_word(step, "a step") for step in steps])
-    workspace, residue, index = _workspace(greys), _entries("B", greys), _entries("H", greys)
-    _call("map", *_lend(greys), picture.width, picture.height, _attribute(attribute), _neighbours(neighbours), *_lend(listed),
-          _word(gap, "a gap"), *_lend(workspace), *_lend(residue), *_lend(index))
-    return Maps(_like(picture.raster, residue), _like(picture.raster, index))
+    workspace, outputs = _workspace(greys), [_entries(code, greys) for code in codes]
+    _call(name, *_lend(greys), picture.width, picture.height, _attribute(attribute), _neighbours(neighbours), *_lend(listed),
+          _word(gap, "a gap"), *_lend(workspace), *(word for output in outputs for word in _lend(output)))
+    return [_like(picture.raster, output) for output in outputs]
 
 
 # Arguments are judged here as far as they could reach the library as something else: ctypes cuts numbers to 32 bits without a word.
@@ -162,13 +200,17 @@ def _word(value, what):
     return number
 
 
+def _named(value, names, what):
+    """The number of what may be named or numbered."""
+    if not isinstance(value, str):
+        return _word(value, what)
+    if value not in names:
+        raise ValueError(f"{what} is {', '.join(names)}, not {value!r}")
+    return names[value]
+
+
 def _attribute(attribute):
-    """The number of an attribute, which may be named or numbered."""
-    if not isinstance(attribute, str):
-        return _word(attribute, "an attribute")
-    if attribute not in ATTRIBUTES:
-        raise ValueError(f"an attribute is {', '.join(ATTRIBUTES)}, not {attribute!r}")
-    return ATTRIBUTES[attribute]
+    return _named(attribute, ATTRIBUTES, "an attribute")
 
 
 def _neighbours(neighbours):
@@ -182,6 +224,14 @@ def _view(buffer, what):
         raise TypeError(f"{what} is a buffer of bytes, not {type(buffer).__name__}") from None
     if view.format != "B":
         raise TypeError(f"{what} is a buffer of bytes (format B, uint8), not of format {view.format}")
+    return view
+
+
+def _whole(buffer, what):
+    """A view of bytes that stand row by row without gaps, so that they can be lent where they are."""
+    view = _view(buffer, what)
+    if not view.c_contiguous:
+        raise TypeError(f"{what} is a buffer of bytes row by row without gaps")
     return view
 
 
@@ -227,6 +277,25 @@ def _lend(memory):
     return start or _SOMEWHERE.buffer_info()[0], entries
 
 
+class _Buffer(ctypes.Structure):
+    """Py_buffer of Python's C interface, of which the start is wanted."""
+
+    _fields_ = [("start", ctypes.c_void_p), ("owner", ctypes.c_void_p), ("length", ctypes.c_ssize_t),
+                ("itemsize", ctypes.c_ssize_t), ("readonly", ctypes.c_int), ("dimensions", ctypes.c_int),
+                ("format", ctypes.c_void_p), ("shape", ctypes.c_void_p), ("strides", ctypes.c_void_p),
+                ("suboffsets", ctypes.c_void_p), ("internal", ctypes.c_void_p)]
+
+
+def _lend_view(view):
+    """The two arguments for bytes that are lent where they are, as long as the view is held. Others may write them meanwhile, so
+    this is for a call whose answer does not depend on them."""
+    buffer = _Buffer()
+    ctypes.pythonapi.PyObject_GetBuffer(ctypes.py_object(view), ctypes.byref(buffer), 0)
+    start = buffer.start
+    ctypes.pythonapi.PyBuffer_Release(ctypes.byref(buffer))
+    return start or _SOMEWHERE.buffer_info()[0], view.nbytes
+
+
 def _kind(raster, entries):
     """What a call wrote, in the raster's kind: a numpy array, or bytes, or an array of larger entries."""
     numpy = sys.modules.get("numpy")
@@ -251,12 +320,16 @@ def load(path):
     library = ctypes.CDLL(os.path.abspath(path))
     word, run = ctypes.c_uint32, [ctypes.c_void_p, ctypes.c_size_t]
     picture = run + [word, word]
+    maps = picture + [word, word] + run + [word] + run + run + run
     signatures = {
         "read_pgm": run + [ctypes.c_void_p],
         "write_pgm": picture + [word] + run,
         "build": picture + [word, word] + run,
         "open": picture + [word, word, word] + run + run,
-        "map": picture + [word, word] + run + [word] + run + run + run,
+        "map": maps,
+        "dark_map": maps,
+        "combined_map": maps + run,
+        "view_row": run + run + [word, word, word, word],
     }
     for name, arguments in signatures.items():
         try:

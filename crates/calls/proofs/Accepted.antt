@@ -64,6 +64,13 @@ unfolding also
 refused-on cause [] e = not-refused cause e
 refused-on cause (test ∷ later) e = refused-on cause later e
 
+-- one test more: where it is accepted it was before, and the test holds
+pub also-accepted : (verdict : Verdict) (test : Test) → also verdict test ≡ Accepted → (verdict ≡ Accepted) × (test .0 ≡ true)
+unfolding also
+also-accepted Accepted (true, cause) e = (refl, refl)
+also-accepted Accepted (false, cause) e = absurd (not-refused cause e)
+also-accepted (Refused first) test e = absurd (not-refused first e)
+
 -- a call that is accepted passes every test
 pub all-hold : (tests : List Test) → verdict-of tests ≡ Accepted → All-hold tests
 unfolding All-hold also

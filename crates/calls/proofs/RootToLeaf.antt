@@ -6,6 +6,7 @@ use mathlib.Core.List.{List}
 use mathlib.Core.Logic.{⊎-elim}
 use mathlib.Core.Path.{_≡_, refl, sym, ap, _∙_}
 use native.Mathlib.Omega.{arith}
+use lib.IntN.{ℤ}
 use lib.ListN.{getD}
 use borrow.Author.Tests.{eqb-true}
 use Rattle.connected.specs.Component.{Adjacency}
@@ -24,9 +25,12 @@ use Rattle.tree.proofs.Words.{parent-at, listed-at}
 use Rattle.causes.proofs.Laws.{Bounded, some-pixel}
 use Rattle.calls.specs.Calls.{grey, record-of, Build-call, build-verdict, build-workspace, Open-call, open-verdict, open-workspace}
 use Rattle.calls.specs.Calls.{Map-call, map-verdict, map-workspace}
+use Rattle.calls.specs.Reversed.{reversed}
+use Rattle.calls.specs.Combined.{combined-verdict, combined-workspace}
 use Rattle.calls.specs.RootToLeaf.{parent, entry, nodes, Root-to-leaf}
 use Rattle.calls.specs.declared.Verdict.the-variants.{Accepted}
 use Rattle.calls.proofs.Accepted.{build-passed, open-passed, map-passed, bounded}
+use Rattle.calls.proofs.Combined.{combined-passed}
 
 module _ (grid : Grid) (a : ℕ) (picture : List ℕ) (fits : Bounded (grid .width) (grid .height)) where
   abbrev n : ℕ
@@ -109,3 +113,12 @@ unfolding map-workspace
 map-root-to-leaf call accepted =
     let grid = call .grid in
     rw accepted (record-root-to-leaf grid (call .attribute) (call .picture) (bounded (grid .width) (grid .height) (map-passed call accepted .common .sides)))
+
+-- a dark call is a map call on the reversed picture, and a combined call leaves the same
+pub combined-root-to-leaf : (call : Map-call) (contrast : List ℤ) → combined-verdict call contrast ≡ Accepted
+    → Root-to-leaf (call .grid) (reversed (call .picture)) (combined-workspace call contrast)
+unfolding combined-workspace
+combined-root-to-leaf call contrast accepted =
+    let grid = call .grid in
+    let passed = map-passed call (combined-passed call contrast accepted .0) in
+    rw accepted (record-root-to-leaf grid (call .attribute) (reversed (call .picture)) (bounded (grid .width) (grid .height) (passed .common .sides)))

@@ -16,8 +16,8 @@ use Rattle.opening.specs.Node.{node}
 use Rattle.opening.specs.Residue.{threshold-tests, residue-by, index-by}
 use Rattle.tree.specs.Tree.{workspace, number-of-nodes}
 use Rattle.causes.specs.Causes.{number-of}
-use Rattle.causes.specs.declared.Cause.the-variants.{Steps, Gap}
-use Rattle.calls.specs.Judging.{threshold-good, steps-good, gap-good, Test, verdict-of, picture-tests, workspace-test, output-test}
+use Rattle.causes.specs.declared.Cause.the-variants.{Steps}
+use Rattle.calls.specs.Judging.{threshold-good, Test, verdict-of, picture-tests, workspace-test, output-test, sizing-tests}
 use Rattle.calls.specs.declared.Verdict.{Verdict}
 use Rattle.calls.specs.declared.Verdict.the-variants.{Accepted, Refused}
 use Rattle.calls.specs.declared.Built.{Built}
@@ -51,7 +51,7 @@ abbrev pub record-of : Grid → ℕ → List ℕ → List ℕ
 record-of grid a picture = workspace (pixels grid) (adjacent grid) (attribute grid a) (grey picture)
 
 -- what a lent run holds after a call: what the call writes if it is accepted; a refusal leaves "all lent memory" as it was
-abbrev pub after : Verdict → List ℕ → List ℕ → List ℕ
+abbrev pub after : {E : Type 0} → Verdict → List E → List E → List E
 after Accepted written lent = written
 after (Refused cause) written lent = lent
 
@@ -178,16 +178,18 @@ map-call picture grid attribute steps gap workspace residue index =
     (now (residue .entry))
     (now (index .entry))
 
--- its tests, in order, "19, gap above 256, after 4"; the verdict is its answer
+-- its tests, in order; the verdict is its answer
 abbrev pub map-tests : Map-call → List Test
 map-tests call =
-    picture-tests (call .grid) (length (call .picture)) (call .attribute)
-    ++ (steps-good (call .steps), Steps)
-    ∷ (gap-good (call .gap), Gap)
-    ∷ workspace-test (call .grid) (length (call .workspace))
-    ∷ output-test (call .grid) (length (call .residue))
-    ∷ output-test (call .grid) (length (call .index))
-    ∷ []
+    sizing-tests
+    (call .grid)
+    (length (call .picture))
+    (call .attribute)
+    (call .steps)
+    (call .gap)
+    (length (call .workspace))
+    (length (call .residue))
+    (length (call .index))
 
 abbrev pub map-verdict : Map-call → Verdict
 map-verdict call = verdict-of (map-tests call)

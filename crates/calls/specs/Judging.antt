@@ -1,7 +1,7 @@
 -- When a call on a picture is refused, and for which cause. Only lengths and named numbers decide, never a grey.
 use Prim.Native.Nat.{ℕ, _*_}
 use mathlib.Core.Bool.{Bool, true, false, cond, _&&_, _||_}
-use mathlib.Core.List.{List, [], _∷_}
+use mathlib.Core.List.{List, [], _∷_, _++_}
 use lib.Dec.{leb, eqb}
 use lib.ListN.{length}
 use Rattle.opening.specs.Residue.{rising}
@@ -11,7 +11,7 @@ use Rattle.causes.specs.Bounds.{top-threshold, most-steps, most-gap, words-a-pi
 use Rattle.causes.specs.Causes.{number-of}
 use Rattle.causes.specs.Sides.{sides-fit}
 use Rattle.causes.specs.declared.Cause.{Cause}
-use Rattle.causes.specs.declared.Cause.the-variants.{Sides, PictureLength, Attribute, Neighbours, Workspace, Output}
+use Rattle.causes.specs.declared.Cause.the-variants.{Sides, PictureLength, Attribute, Steps, Workspace, Output, Neighbours, Gap}
 use Rattle.calls.specs.declared.Verdict.{Verdict}
 use Rattle.calls.specs.declared.Verdict.the-variants.{Accepted, Refused}
 
@@ -73,6 +73,17 @@ workspace-test grid words = (eqb words (words-a-pixel * pixels grid), Workspace)
 -- 6, by the entries of an output
 abbrev pub output-test : Grid → ℕ → Test
 output-test grid entries = (eqb entries (pixels grid), Output)
+
+-- the tests of a call that sizes a picture, by what it names and the lengths of what it is lent: "19, gap above 256, after 4"
+abbrev pub sizing-tests : Grid → ℕ → ℕ → List ℕ → ℕ → ℕ → ℕ → ℕ → List Test
+sizing-tests grid bytes attribute steps gap words residues indices =
+    picture-tests grid bytes attribute
+    ++ (steps-good steps, Steps)
+    ∷ (gap-good gap, Gap)
+    ∷ workspace-test grid words
+    ∷ output-test grid residues
+    ∷ output-test grid indices
+    ∷ []
 
 -- "A call is accepted if no cause for refusal applies to it, else refused."
 abbrev pub accepted : Verdict → Bool

@@ -1,3 +1,5 @@
 pub mod Judging
 pub mod Calls
+pub mod Reversed
+pub mod Combined
 pub mod RootToLeaf

@@ -4,7 +4,7 @@ ghost use mathlib.Core.Path.{_≡_};
 ghost use lib.Dec.{eqb};
 ghost use Rattle.causes.specs.Bounds.{words-a-pixel};
 ghost use Rattle.grid.specs.Pixels.{pixels};
-ghost use Rattle.calls.specs.Judging.{attribute-good, neighbours-good, threshold-good, steps-good, gap-good, also, verdict-of, picture-tests};
+ghost use Rattle.calls.specs.Judging.{attribute-good, neighbours-good, threshold-good, steps-good, gap-good, also, verdict-of, picture-tests, sizing-tests};
 use grid::Grid;
 
 // Whether a call is accepted, and if not the first cause that applies. This is also what an opening call and a map call answer.
@@ -139,4 +139,30 @@ pub fn judge_picture(grid: Grid, bytes: usize, attribute: u32) -> Verdict
         neighbours_good(grid.neighbours),
         causes::Cause::Neighbours,
     )
+}
+
+// The tests of a call that sizes a picture: those, its steps, its gap, its workspace's words and the entries of its two maps.
+pub fn judge_sizing(
+    grid: Grid,
+    bytes: usize,
+    attribute: u32,
+    steps: &[u32],
+    gap: u32,
+    words: usize,
+    residues: usize,
+    indices: usize,
+) -> Verdict
+    ensures answer { λ r. ⌜ r ≡ verdict-of (sizing-tests grid bytes attribute (now (steps .entry)) gap words residues indices) ⌝ }
+{
+    let named = judge_picture(grid, bytes, attribute);
+    let steps_right = steps_good(steps);
+    let gap_right = gap_good(gap);
+    let words_right = words_each(grid, words);
+    let residues_right = entry_each(grid, residues);
+    let indices_right = entry_each(grid, indices);
+    let by_steps = also(named, steps_right, causes::Cause::Steps);
+    let by_gap = also(by_steps, gap_right, causes::Cause::Gap);
+    let by_words = also(by_gap, words_right, causes::Cause::Workspace);
+    let by_residues = also(by_words, residues_right, causes::Cause::Output);
+    also(by_residues, indices_right, causes::Cause::Output)
 }

@@ -45,6 +45,22 @@ pub fn entries(s: &[u16]) {
     }
 }
 
+fn contrast(x: i16) {
+    if x < 0 {
+        number(b" -", (-(x as i32)) as u64);
+        return;
+    }
+    number(b" ", x as u64);
+}
+
+pub fn contrasts(s: &[i16]) {
+    let mut i = 0;
+    while i < s.len() {
+        contrast(s[i]);
+        i += 1;
+    }
+}
+
 pub fn words(s: &[u32]) {
     let mut i = 0;
     while i < s.len() {

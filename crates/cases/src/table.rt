@@ -161,6 +161,16 @@ pub fn lent_entries<'a>(line: &[u8], k: usize, memory: &'a mut [u16]) -> &'a mut
     &mut memory[..count]
 }
 
+// The same of 16-bit entries with a sign.
+pub fn lent_contrasts<'a>(line: &[u8], k: usize, memory: &'a mut [i16]) -> &'a mut [i16] {
+    let count = number(line, k) as usize;
+    if memory.len() < count {
+        printing::cut();
+        return memory;
+    }
+    &mut memory[..count]
+}
+
 // The same of words.
 pub fn lent_words<'a>(line: &[u8], k: usize, memory: &'a mut [u32]) -> &'a mut [u32] {
     let count = number(line, k) as usize;

@@ -2,7 +2,7 @@
 use Prim.Native.Nat.{ℕ}
 use mathlib.Core.Bool.{Bool, cond}
 use Rattle.causes.specs.declared.Cause.{Cause}
-use Rattle.causes.specs.declared.Cause.the-variants.{Sides, PictureLength, Attribute, Steps, Workspace, Output, Buffer, Sign, Header, Maximum, RasterLength, Sample, StepsFile, TooLarge, NotRead, Neighbours, Gap}
+use Rattle.causes.specs.declared.Cause.the-variants.{Sides, PictureLength, Attribute, Steps, Workspace, Output, Buffer, Sign, Header, Maximum, RasterLength, Sample, StepsFile, TooLarge, NotRead, View, Neighbours, Gap}
 
 abbrev pub number-of : Cause → ℕ
 -- width or height outside 1..4,096, or n above 1,048,576
@@ -15,7 +15,7 @@ number-of Attribute = 3
 number-of Steps = 4
 -- workspace not 7n words
 number-of Workspace = 5
--- an output not n entries
+-- an output, or a map that a call only reads, not n entries
 number-of Output = 6
 -- writer's buffer below the bytes needed
 number-of Buffer = 7
@@ -35,6 +35,8 @@ number-of StepsFile = 13
 number-of TooLarge = 14
 -- program: a file not opened or read
 number-of NotRead = 15
+-- row or side outside its range
+number-of View = 16
 -- neighbourhood neither 4 nor 8
 number-of Neighbours = 17
 -- gap above 256

@@ -32,6 +32,7 @@ pub enum Cause {
     StepsFile,
     TooLarge,
     NotRead,
+    View,
     Neighbours,
     Gap,
 }
@@ -55,6 +56,7 @@ pub fn number(cause: Cause) -> u32
         Cause::StepsFile => 13,
         Cause::TooLarge => 14,
         Cause::NotRead => 15,
+        Cause::View => 16,
         Cause::Neighbours => 17,
         Cause::Gap => 19,
     }

@@ -109,7 +109,7 @@ module _ {grid : Grid} {picture ws ws₁ counts starts : List ℕ} (F : Floodabl
     some = first-pixel F
 
     at-start : (k : ℕ) → k < 256 → getD starts k 0 ≡ darker (length picture) (grey picture) k
-    at-start k h = table-read _ T k h ∙ sum-darker picture counts (length picture) C k (omega arith)
+    at-start k h = table-read 0 _ T k h ∙ sum-darker picture counts (length picture) C k (omega arith)
 
     -- no pixel has a parent and no level a root
     abbrev none : ℕ → ℕ

@@ -2,7 +2,6 @@ pub mod Settling
 pub mod Turns
 pub mod Keeping
 pub mod Visiting
-pub mod Spreading
 pub mod Climbing
 pub mod Right
 pub mod Maps

@@ -1,13 +1,13 @@
--- Both passes together: every pixel finds the pair of its node, and what they leave is what the definition says of the grid's pictures.
+-- The pass over the nodes as a whole: every pixel finds the pair of its node, which holds what the definition says of the grid's pictures.
 use Prim.Native.Nat.{ℕ, _≤_, _<_}
 use mathlib.Core.List.{List}
-use mathlib.Core.Path.{_≡_, subst, _∙_}
+use mathlib.Core.Path.{_≡_, refl, subst, _∙_}
 use native.Mathlib.Omega.{arith}
 use lib.ListN.{length, length-map}
-use Rattle.sets.specs.Sets.{Positions, table}
-use Rattle.sets.proofs.Laws.{table-ext}
+use Rattle.sets.specs.Sets.{Positions}
+use Rattle.sets.proofs.Laws.{table-at}
 use Rattle.opening.specs.Opening.{least-grey, Increasing, at-least}
-use Rattle.opening.specs.Residue.{threshold-tests}
+use Rattle.opening.specs.Residue.{threshold-tests, residue-by, index-by}
 use Rattle.opening.proofs.Residue.{threshold-tests-narrow}
 use Rattle.grid.specs.Pixels.{pixels}
 use Rattle.grid.specs.Neighbours.{adjacent}
@@ -20,8 +20,8 @@ use Rattle.causes.specs.Bounds.{most-pixels}
 use Rattle.calls.specs.Calls.{grey, residue-map, index-map}
 use Rattle.levels.specs.Workspace.{up-of}
 use Rattle.numbers.specs.Nodes.{NodesOf}
-use Rattle.map_passes.specs.Settle.{total-in, index-in, run-at, pair-at}
-use Rattle.map_passes.specs.Passes.{Climbable, Given, place-at, Settled, Settled-from, pair-for, Spreadable, Ready, Written}
+use Rattle.map_passes.specs.Settle.{run-at, pair-at}
+use Rattle.map_passes.specs.Passes.{Climbable, Given, place-at, Settled, Settled-from, pair-for, Right-pairs, Holdable, Paired}
 use Rattle.map_passes.proofs.Climbing.{nodes-climbable}
 use Rattle.map_passes.proofs.Keeping.{kept-number}
 use Rattle.map_passes.proofs.Right.{places-right, pair-right}
@@ -38,24 +38,23 @@ module _ {n nodes gap : ℕ} {steps ws ws' : List ℕ} (prog : Settled-from n no
       (prog .done level climb j (omega arith) l)
 
   -- the pass over the pixels finds the numbers as they were
-  passes-spreads : Given n nodes gap steps ws → {residues indices : ℕ} → residues ≡ n → indices ≡ n → Spreadable n ws' residues indices
-  passes-spreads given residues-size indices-size = record {
+  passes-hold : Given n nodes gap steps ws → Holdable n ws' n
+  passes-hold given = record {
     ws-size = prog .kept .words ∙ given .ws-size;
-    residues-size = residues-size;
-    indices-size = indices-size;
+    pairs-size = refl;
     within = λ q b. rw (kept-number (prog .kept) q b) (omega (arith, given .climb .within q b, given .climb .few));
     fits = λ q b. rw (kept-number (prog .kept) q b) (settled-all (given .climb) _ (given .climb .within q b) .fits);
   }
 
--- on a grid the pass over the pixels leaves the maps
+-- on a grid the pairs are right
 module _ (grid : Grid) (a : ℕ) (picture : List ℕ) (wide : 1 ≤ grid .width) (few : pixels grid ≤ most-pixels) {nodes gap : ℕ}
     {steps ws ws' : List ℕ} (size : length picture ≡ pixels grid) (given : Given (length picture) nodes gap steps ws)
     (prog : Settled-from (length picture) nodes gap steps ws ws' 0) (N : NodesOf grid a picture ws nodes) (bytes : (q : ℕ) → grey picture q < 256) where
-  maps-grid : (table (length picture) (λ (q : ℕ). total-in (pair-for (length picture) ws' q)) ≡ residue-map grid a steps gap picture)
-      × (table (length picture) (λ (q : ℕ). index-in (pair-for (length picture) ws' q)) ≡ index-map grid a steps gap picture)
+  pairs-right : Right-pairs grid a steps gap picture (pair-for (length picture) ws')
   unfolding residue-map index-map
-  maps-grid =
+  pairs-right q inside =
       let attr : Positions → ℕ = attribute grid a in
+      let b : q < length picture = rw size inside in
       let rise : Increasing (length picture) attr = rw size (attribute-increasing grid a few) in
       let whole : (p q : ℕ) → p < length picture → q < length picture
       → Together (length picture) (adjacent grid) (grey picture) (least-grey (length picture) (grey picture)) p q =
@@ -73,27 +72,18 @@ module _ (grid : Grid) (a : ℕ) (picture : List ℕ) (wide : 1 ≤ grid .width)
       (given .small-gap)
       (places-right (adjacent-symmetric grid) N whole rise steps (given .rise))
       bytes
-      (settled-all prog (nodes-climbable N bytes)) in
-      rw (← size) (
-        table-ext (length picture) _ _ (λ q b. rw (kept-number (prog .kept) q b) (right q b .0)),
-        table-ext (length picture) _ _ (λ q b. rw (kept-number (prog .kept) q b) (right q b .1)),
-      )
+      (settled-all prog (nodes-climbable N bytes))
+      q
+      b in
+      rw
+      (kept-number (prog .kept) q b, table-at (pixels grid) (λ (p : ℕ). residue-by (pixels grid) (adjacent grid) (threshold-tests attr steps) gap (grey picture) p) q 0 inside, table-at (pixels grid) (λ (p : ℕ). index-by (pixels grid) (adjacent grid) (threshold-tests attr steps) gap (grey picture) p) q 0 inside, ← size)
+      right
 
--- what the pass over the pixels is given, and what both passes leave
-module _ {gap nodes : ℕ} {picture steps ws ws' residues indices : List ℕ} (ready : Ready picture steps gap nodes ws residues indices)
-    (prog : Settled-from (length picture) nodes gap steps ws ws' 0) where
-  pub passes-spread : Spreadable (length picture) ws' (length residues) (length indices)
-  passes-spread = passes-spreads prog (ready .given) (ready .residues-size) (ready .indices-size)
-
-  pub passes-written : {best index : List ℕ} → ((q : ℕ) → grey picture q < 256)
-      → (best ≡ table (length picture) (λ (q : ℕ). total-in (pair-for (length picture) ws' q)))
-      × (index ≡ table (length picture) (λ (q : ℕ). index-in (pair-for (length picture) ws' q)))
-      → Written picture steps gap nodes ws ws' best index
-  passes-written bytes (is-best, is-index) =
-      record {
-        kept = prog .kept;
-        maps =
-            λ grid a wide few size N.
-            let maps = maps-grid grid a picture wide few size (ready .given) prog N bytes in
-            (is-best ∙ maps .0, is-index ∙ maps .1);
-      }
+-- what the pass over the nodes leaves
+pub pairs-settled : {gap nodes : ℕ} {picture steps ws ws' : List ℕ} → Given (length picture) nodes gap steps ws
+    → Settled-from (length picture) nodes gap steps ws ws' 0 → ((q : ℕ) → grey picture q < 256) → Paired picture steps gap nodes ws ws'
+pairs-settled {picture = picture} given prog bytes = record {
+  kept = prog .kept;
+  holdable = passes-hold prog given;
+  right = λ grid a wide few size N. pairs-right grid a picture wide few size given prog N bytes;
+}

@@ -1,4 +1,4 @@
--- The two passes, on the words that they are lent: the words of the nodes, of which there are as many as `nodes` says, and the numbers of
+-- The passes, on the words that they are lent: the words of the nodes, of which there are as many as `nodes` says, and the numbers of
 -- the pixels' nodes, which they leave as they are. What the nodes hold stands by number in the third part and the last.
 use Prim.Native.Nat.{ℕ, _+_, _-_, _*_, _≤_, _<_}
 use mathlib.Core.Bool.{true}
@@ -14,7 +14,7 @@ use Rattle.levels.specs.Workspace.{number-at, closed-of, drop-of, up-of, held-o
 use Rattle.flooding.specs.Numbers.{Drops, Closing-order}
 use Rattle.numbers.specs.Nodes.{NodesOf}
 use Rattle.places.specs.Places.{place-of}
-use Rattle.map_passes.specs.Settle.{total-in, own-in, run-word, pair-word, run-at, pair-at, stored}
+use Rattle.map_passes.specs.Settle.{total-in, index-in, own-in, run-word, pair-word, run-at, pair-at, stored}
 
 -- numbers that a climb can go by: each pixel's node has one, and each node's parent, which lies below it by the node's drop
 pub record Climbing (n nodes : ℕ) (num level up closed drop : ℕ → ℕ) : Type 0 where
@@ -29,7 +29,7 @@ pub record Climbing (n nodes : ℕ) (num level up closed drop : ℕ → ℕ) : T
 abbrev pub Climbable : ℕ → ℕ → (ℕ → ℕ) → List ℕ → Type 0
 Climbable n nodes level ws = Climbing n nodes (number-at ws) level (up-of n ws) (closed-of n ws) (drop-of n ws)
 
--- what both passes are given; the levels of the nodes are not stored
+-- what the pass over the nodes is given; the levels of the nodes are not stored
 pub record Given (n nodes gap : ℕ) (steps ws : List ℕ) : Type 0 where
   pub few : length steps ≤ most-steps
   pub rise : rising 0 steps ≡ true
@@ -93,23 +93,23 @@ pub record Settled-from (n nodes gap : ℕ) (steps ws ws' : List ℕ) (i : ℕ) 
 abbrev pub pair-for : ℕ → List ℕ → ℕ → ℕ
 pair-for n ws q = pair-at n ws (number-at ws q)
 
+-- pairs by position are right for a picture on a grid: they hold the entries of both maps
+abbrev pub Right-pairs : Grid → ℕ → List ℕ → ℕ → List ℕ → (ℕ → ℕ) → Type 0
+Right-pairs grid a steps gap picture pair =
+    (q : ℕ) → q < pixels grid
+    → (total-in (pair q) ≡ getD (residue-map grid a steps gap picture) q 0) × (index-in (pair q) ≡ getD (index-map grid a steps gap picture) q 0)
+
 -- what the pass over the pixels needs: each pixel's node has a number, and its pair 16 bits
-pub record Spreadable (n : ℕ) (ws : List ℕ) (residues indices : ℕ) : Type 0 where
+pub record Holdable (n : ℕ) (ws : List ℕ) (pairs : ℕ) : Type 0 where
   pub ws-size : length ws ≡ words-a-pixel * n
-  pub residues-size : residues ≡ n
-  pub indices-size : indices ≡ n
+  pub pairs-size : pairs ≡ n
   pub within : (q : ℕ) → q < n → number-at ws q < n
   pub fits : (q : ℕ) → q < n → pair-for n ws q < 65536
 
--- what both passes are lent
-pub record Ready (picture steps : List ℕ) (gap nodes : ℕ) (ws residues indices : List ℕ) : Type 0 where
-  pub given : Given (length picture) nodes gap steps ws
-  pub residues-size : length residues ≡ length picture
-  pub indices-size : length indices ≡ length picture
-
--- what they write, where the words are those of the nodes of a picture on any grid under any of the attributes
-pub record Written (picture steps : List ℕ) (gap nodes : ℕ) (ws ws' residues indices : List ℕ) : Type 0 where
+-- what the pass over the nodes leaves, where the words are those of the nodes of a picture on any grid under any of the attributes
+pub record Paired (picture steps : List ℕ) (gap nodes : ℕ) (ws ws' : List ℕ) : Type 0 where
   pub kept : Kept (length picture) ws ws'
-  pub maps :
+  pub holdable : Holdable (length picture) ws' (length picture)
+  pub right :
       (grid : Grid) (a : ℕ) → 1 ≤ grid .width → pixels grid ≤ most-pixels → length picture ≡ pixels grid → NodesOf grid a picture ws nodes
-      → (residues ≡ residue-map grid a steps gap picture) × (indices ≡ index-map grid a steps gap picture)
+      → Right-pairs grid a steps gap picture (pair-for (length picture) ws')

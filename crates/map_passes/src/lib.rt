@@ -1,6 +1,7 @@
-// The two passes over the nodes of a picture that give its maps: one over the nodes, from the last closed to the first and so from
-// parents to children, which settles each node from its parent, then one over the pixels, which alone writes the maps. A pair stands for a
-// run of residues: end × 256 + total, where end is the place of its last residue. What a node holds stands in two words by its number: in
+// The passes that give the maps of a picture: one over its nodes, from the last closed to the first and so from parents to children, which
+// settles each node from its parent; one over the pixels, which holds the pair of each pixel's node in the index map; and, when the picture is
+// needed no more, one that makes both maps of the pairs. A pair stands for a run of residues: end × 256 + total, where end is the place of its
+// last residue. What a node holds stands in two words by its number: in
 // part 3 its run word, place × 65536 + the pair of the run of its own fall; in part 7 the pair of the run of largest total, 0 where no residue
 // is. As there are at most 256 steps and greys, a pair has 16 bits; a node that never falls has 512 for its place, beyond every step and gap.
 // The time grows with the number of steps only by the search for the steps at which nodes fall, and not with the gap.
@@ -8,12 +9,12 @@ ghost use mathlib.Core.Path.{_≡_};
 ghost use mathlib.Core.Bool.{cond};
 ghost use Prim.Native.Nat.{ℕ, _≤_, _<_};
 ghost use lib.Dec.{ltb};
-ghost use lib.ListN.{length};
+ghost use lib.ListN.{length, getD};
 ghost use Rattle.sets.specs.Sets.{table};
 ghost use Rattle.places.specs.Places.{small-places};
 ghost use Rattle.causes.specs.Bounds.{most-steps, most-gap};
 ghost use Rattle.map_passes.specs.Settle.{total-in, index-in, shared-pair, Storable, stored, Settleable, settled-at};
-ghost use Rattle.map_passes.specs.Passes.{Given, Settled-from, Visitable, visited-at, pair-for, Spreadable, Ready, Written};
+ghost use Rattle.map_passes.specs.Passes.{Given, Settled-from, Visitable, visited-at, pair-for, Paired, Holdable};
 
 // The run word of a node that never falls.
 const NEVER: u32 = 33554432;
@@ -31,8 +32,8 @@ fn shared(gap: u32, place: u32, run: u32) -> u32
     }
 }
 
-// The pair of a node: its own run's if the total is more than the largest of its parent's pair, else that pair. Both are at hand.
-fn better(own: u32, pair: u32) -> u32
+// The first of two pairs if its total is more, else the second. Both are at hand, so nothing branches.
+pub fn better(own: u32, pair: u32) -> u32
     ensures { λ r. ⌜ r ≡ cond (ltb (total-in pair) (total-in own)) own pair ⌝ }
 {
     if pair % 256 < own % 256 { own } else { pair }
@@ -97,38 +98,40 @@ fn settle_nodes(
     }
 }
 
-// Every pixel takes both entries from the pair of its node. Rounded up, the pair over 256 is the index, 0 for no residue.
-fn spread(n: usize, ws: &[u32], residues: &mut [u8], indices: &mut [u16])
-    requires { ⌜ Spreadable n (now ws) (length (now residues)) (length (now indices)) ⌝ }
-    ensures residues { λ _. ⌜ now (residues .exit) ≡ table n (λ (q : ℕ). total-in (pair-for n (now (ws .entry)) q)) ⌝ }
-    ensures indices { λ _. ⌜ now (indices .exit) ≡ table n (λ (q : ℕ). index-in (pair-for n (now (ws .entry)) q)) ⌝ }
+// The pair of every node, from the words of the nodes. Parts 3 and 7 are free for the pass over them.
+pub fn settle_pairs(picture: &[u8], steps: &[u32], gap: u32, nodes: usize, ws: &mut [u32])
+    requires { ⌜ Given (length (now picture)) nodes gap (now steps) (now ws) ⌝ }
+    ensures { λ _. ⌜ Paired (now (picture .entry)) (now (steps .entry)) gap nodes (now (ws .entry)) (now (ws .exit)) ⌝ }
+{
+    let table = places::small_places(steps);
+    settle_nodes(steps, &table, gap, picture.len(), nodes, ws);
+}
+
+// Every pixel takes the pair of its node.
+pub fn hold(n: usize, ws: &[u32], pairs: &mut [u16])
+    requires { ⌜ Holdable n (now ws) (length (now pairs)) ⌝ }
+    ensures { λ _. ⌜ now (pairs .exit) ≡ table n (λ (q : ℕ). pair-for n (now (ws .entry)) q) ⌝ }
 {
     let mut p: usize = 0;
     while p < n {
         let k = ws[p] as usize;
-        let pair = ws[6 * n + k];
-        residues[p] = (pair % 256) as u8;
-        indices[p] = ((pair + 255) / 256) as u16;
+        pairs[p] = ws[6 * n + k] as u16;
         p += 1;
     }
 }
 
-// Both maps, from the words of the nodes. Parts 3 and 7 are free for the pass over them.
-pub fn write_maps(
-    picture: &[u8],
-    steps: &[u32],
-    gap: u32,
-    nodes: usize,
-    ws: &mut [u32],
-    residues: &mut [u8],
-    indices: &mut [u16],
-)
-    requires { ⌜ Ready (now picture) (now steps) gap nodes (now ws) (now residues) (now indices) ⌝ }
-    ensures { λ _. ⌜ Written (now (picture .entry)) (now (steps .entry)) gap nodes
-        (now (ws .entry)) (now (ws .exit)) (now (residues .exit)) (now (indices .exit)) ⌝ }
+// Both maps, from the pairs that the index map holds. Rounded up, the pair over 256 is the index, 0 for no residue.
+pub fn unpack(residues: &mut [u8], indices: &mut [u16])
+    requires { ⌜ length (now residues) ≡ length (now indices) ⌝ }
+    ensures residues { λ _. ⌜ now (residues .exit) ≡ table (length (now (indices .entry))) (λ (q : ℕ). total-in (getD (now (indices .entry)) q 0)) ⌝ }
+    ensures indices { λ _. ⌜ now (indices .exit) ≡ table (length (now (indices .entry))) (λ (q : ℕ). index-in (getD (now (indices .entry)) q 0)) ⌝ }
 {
-    let n = picture.len();
-    let table = places::small_places(steps);
-    settle_nodes(steps, &table, gap, n, nodes, ws);
-    spread(n, ws, residues, indices);
+    let n = indices.len();
+    let mut p: usize = 0;
+    while p < n {
+        let pair = indices[p] as u32;
+        residues[p] = (pair % 256) as u8;
+        indices[p] = ((pair + 255) / 256) as u16;
+        p += 1;
+    }
 }

@@ -39,9 +39,9 @@ two-tables n f g xs size first second =
     let both : 2 * n ≡ n + n = omega arith in
     let half : n ≤ length (drop n xs) = rw (length-drop n xs) (omega arith) in
     let one : take n xs ≡ table n f =
-    as-table f (length-take-le n xs (omega arith)) (λ q b. getD-take n xs q 0 b ∙ first q b) in
+    as-table 0 f (length-take-le n xs (omega arith)) (λ q b. getD-take n xs q 0 b ∙ first q b) in
     let two : take n (drop n xs) ≡ table n g =
-    as-table g (length-take-le n (drop n xs) half) (λ q b. getD-take n (drop n xs) q 0 b ∙ getD-drop n xs q 0 ∙ second q b) in
+    as-table 0 g (length-take-le n (drop n xs) half) (λ q b. getD-take n (drop n xs) q 0 b ∙ getD-drop n xs q 0 ∙ second q b) in
     rw (both, take-add n n xs, one, two) refl
 
 -- the same choice, where what is chosen is the same

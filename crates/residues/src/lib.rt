@@ -1,9 +1,47 @@
-// The map call: the residue map and the index map of a picture for a list of steps and a gap.
+// Sizing a picture: the pairs of its nodes, those of its pixels, and the map call, which gives the residue map and the index map of a picture for
+// a list of steps and a gap.
 ghost use mathlib.Core.Path.{_≡_};
+ghost use lib.ListN.{length};
+ghost use Rattle.grid.specs.Pixels.{pixels};
 ghost use Rattle.calls.specs.Judging.{verdict-numbers};
 ghost use Rattle.calls.specs.Calls.{map-call, map-verdict, map-workspace, map-residue, map-index};
-use causes::Cause;
+ghost use Rattle.residues.specs.Sizing.{Sizeable, Node-pairs, Pixel-pairs};
 use grid::Grid;
+
+// The words of the nodes of a picture, with the pair of each.
+pub fn settle(
+    picture: &[u8],
+    grid: Grid,
+    attribute: u32,
+    steps: &[u32],
+    gap: u32,
+    workspace: &mut [u32],
+)
+    requires { ⌜ Sizeable grid (now picture) (now steps) gap (now workspace) ⌝ }
+    ensures { λ _. ⌜ Node-pairs grid attribute (now (picture .entry)) (now (steps .entry)) gap (now (workspace .exit)) ⌝ }
+{
+    let nodes = max_tree::build_nodes(picture, grid, attribute, workspace);
+    map_passes::settle_pairs(picture, steps, gap, nodes, workspace);
+}
+
+// The same, and the pair of each pixel.
+pub fn size(
+    picture: &[u8],
+    grid: Grid,
+    attribute: u32,
+    steps: &[u32],
+    gap: u32,
+    workspace: &mut [u32],
+    pairs: &mut [u16],
+)
+    requires { ⌜ Sizeable grid (now picture) (now steps) gap (now workspace) ⌝ }
+    requires { ⌜ length (now pairs) ≡ pixels grid ⌝ }
+    ensures workspace { λ _. ⌜ Node-pairs grid attribute (now (picture .entry)) (now (steps .entry)) gap (now (workspace .exit)) ⌝ }
+    ensures pairs { λ _. ⌜ Pixel-pairs grid attribute (now (picture .entry)) (now (steps .entry)) gap (now (pairs .exit)) ⌝ }
+{
+    settle(picture, grid, attribute, steps, gap, workspace);
+    map_passes::hold(picture.len(), workspace, pairs);
+}
 
 // The residue map and the index map of a picture for a list of steps, whose residues a gap joins. The workspace holds the tree record of the picture.
 pub fn map(
@@ -21,32 +59,24 @@ pub fn map(
     ensures residue { λ _. ⌜ now (residue .exit) ≡ map-residue (map-call picture grid attribute steps gap workspace residue index) ⌝ }
     ensures index { λ _. ⌜ now (index .exit) ≡ map-index (map-call picture grid attribute steps gap workspace residue index) ⌝ }
 {
-    let named = calls::judge_picture(grid, picture.len(), attribute);
-    let by_steps = calls::also(named, calls::steps_good(steps), Cause::Steps);
-    let by_gap = calls::also(by_steps, calls::gap_good(gap), Cause::Gap);
-    let by_words = calls::also(
-        by_gap,
-        calls::words_each(grid, workspace.len()),
-        Cause::Workspace,
-    );
-    let by_residue = calls::also(
-        by_words,
-        calls::entry_each(grid, residue.len()),
-        Cause::Output,
-    );
-    let verdict = calls::also(
-        by_residue,
-        calls::entry_each(grid, index.len()),
-        Cause::Output,
+    let verdict = calls::judge_sizing(
+        grid,
+        picture.len(),
+        attribute,
+        steps,
+        gap,
+        workspace.len(),
+        residue.len(),
+        index.len(),
     );
     match verdict {
         calls::Verdict::Refused(cause) => {
             return calls::Verdict::Refused(cause);
         }
         calls::Verdict::Accepted => {
-            let nodes = max_tree::build_nodes(picture, grid, attribute, workspace);
-            map_passes::write_maps(picture, steps, gap, nodes, workspace, residue, index);
+            size(picture, grid, attribute, steps, gap, workspace, index);
             max_tree::write_whole(picture, workspace);
+            map_passes::unpack(residue, index);
             return calls::Verdict::Accepted;
         }
     }

@@ -9,6 +9,9 @@ ghost use Rattle.pgm_write.specs.Write.{write-answer, written-numbers, buffer-a
 ghost use Rattle.calls.specs.Judging.{verdict-numbers};
 ghost use Rattle.calls.specs.Calls.{built, built-numbers, build-workspace, open-verdict, open-workspace, open-output};
 ghost use Rattle.calls.specs.Calls.{map-verdict, map-workspace, map-residue, map-index};
+ghost use Rattle.calls.specs.Reversed.{reversed-call};
+ghost use Rattle.calls.specs.Combined.{combined-verdict, combined-workspace, combined-residue, combined-index, combined-contrast};
+ghost use Rattle.viewer.specs.View.{view-call, viewed, viewed-numbers};
 ghost use Rattle.teldruf.specs.Codes.{code-of, number-code, head-with};
 ghost use Rattle.teldruf.specs.Parameters.{build-by, open-by, map-by};
 use causes::Cause;
@@ -157,5 +160,111 @@ pub extern "C" fn teldruf_map(
     ) {
         calls::Verdict::Accepted => 0,
         calls::Verdict::Refused(cause) => refused(cause),
+    }
+}
+
+// Writes the residue map and the index map of dark floc: those of the reversed picture, 255 less each grey.
+#[no_mangle]
+pub extern "C" fn teldruf_dark_map(
+    picture: &[u8],
+    width: u32,
+    height: u32,
+    attribute: u32,
+    neighbours: u32,
+    steps: &[u32],
+    gap: u32,
+    workspace: &mut [u32],
+    residue: &mut [u8],
+    index: &mut [u16],
+) -> u64
+    ensures answer { λ r. ⌜ r ≡
+        code-of (verdict-numbers (map-verdict (reversed-call (map-by picture width height attribute neighbours steps gap workspace residue index)))) ⌝ }
+    ensures workspace { λ _. ⌜ now (workspace .exit) ≡
+        map-workspace (reversed-call (map-by picture width height attribute neighbours steps gap workspace residue index)) ⌝ }
+    ensures residue { λ _. ⌜ now (residue .exit) ≡
+        map-residue (reversed-call (map-by picture width height attribute neighbours steps gap workspace residue index)) ⌝ }
+    ensures index { λ _. ⌜ now (index .exit) ≡
+        map-index (reversed-call (map-by picture width height attribute neighbours steps gap workspace residue index)) ⌝ }
+{
+    match dark::dark_map(
+        picture,
+        Grid {
+            width,
+            height,
+            neighbours,
+        },
+        attribute,
+        steps,
+        gap,
+        workspace,
+        residue,
+        index,
+    ) {
+        calls::Verdict::Accepted => 0,
+        calls::Verdict::Refused(cause) => refused(cause),
+    }
+}
+
+// Writes the residue map, the index map and the contrast map of light and dark floc together.
+#[no_mangle]
+pub extern "C" fn teldruf_combined_map(
+    picture: &[u8],
+    width: u32,
+    height: u32,
+    attribute: u32,
+    neighbours: u32,
+    steps: &[u32],
+    gap: u32,
+    workspace: &mut [u32],
+    residue: &mut [u8],
+    index: &mut [u16],
+    contrast: &mut [i16],
+) -> u64
+    ensures answer { λ r. ⌜ r ≡ code-of (verdict-numbers
+        (combined-verdict (map-by picture width height attribute neighbours steps gap workspace residue index) (now (contrast .entry)))) ⌝ }
+    ensures workspace { λ _. ⌜ now (workspace .exit) ≡
+        combined-workspace (map-by picture width height attribute neighbours steps gap workspace residue index) (now (contrast .entry)) ⌝ }
+    ensures residue { λ _. ⌜ now (residue .exit) ≡
+        combined-residue (map-by picture width height attribute neighbours steps gap workspace residue index) (now (contrast .entry)) ⌝ }
+    ensures index { λ _. ⌜ now (index .exit) ≡
+        combined-index (map-by picture width height attribute neighbours steps gap workspace residue index) (now (contrast .entry)) ⌝ }
+    ensures contrast { λ _. ⌜ now (contrast .exit) ≡
+        combined-contrast (map-by picture width height attribute neighbours steps gap workspace residue index) (now (contrast .entry)) ⌝ }
+{
+    match dark::combined_map(
+        picture,
+        Grid {
+            width,
+            height,
+            neighbours,
+        },
+        attribute,
+        steps,
+        gap,
+        workspace,
+        residue,
+        index,
+        contrast,
+    ) {
+        calls::Verdict::Accepted => 0,
+        calls::Verdict::Refused(cause) => refused(cause),
+    }
+}
+
+// Answers where a row starts in the residue map of a side, 1 light or 2 dark. A host finds the row there, uncopied.
+#[no_mangle]
+pub extern "C" fn teldruf_view_row(
+    light: &[u8],
+    dark: &[u8],
+    width: u32,
+    height: u32,
+    row: u32,
+    side: u32,
+) -> u64
+    ensures answer { λ r. ⌜ r ≡ code-of (viewed-numbers (viewed (view-call light dark width height row side))) ⌝ }
+{
+    match viewer::view_start(light, dark, width, height, row, side) {
+        viewer::Viewed::Start(start) => start as u64,
+        viewer::Viewed::Refused(cause) => refused(cause),
     }
 }

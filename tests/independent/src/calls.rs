@@ -1,18 +1,20 @@
-// Build, open and map on random pictures, under both neighbourhoods, maps at gap 0 and at another:
-// accepted calls against the definitions, refused ones against the causes, each cause alone and in
-// pairs.
+// Build, open and the three map calls on random pictures, under both neighbourhoods, maps at gap 0
+// and at another: accepted calls against the definitions, refused ones against the causes, each
+// cause alone and in pairs.
 
 use crate::causes::{refusal, Named, NEIGHBOURHOODS, ORDER};
 use crate::causes::{MOST_GAP, MOST_STEPS, MOST_THRESHOLD, WORDS_A_PIXEL};
 use crate::damage;
+use crate::dark;
 use crate::definition::{Component, Levels, Picture, Record, CUT};
 use crate::fast::Forest;
-use crate::interface::{self, Numbers};
+use crate::interface::{self, MapCall, Mapping, Numbers, MAP_CALLS};
 use crate::lent::Lent;
 use crate::pictures;
 use crate::random::Random;
 use crate::report::{answer_fault, refused, Report};
 use crate::runs::Maps;
+use std::cell::OnceCell;
 
 /// What is named and lent in a call; each call takes its part of it.
 #[derive(Clone, Debug)]
@@ -22,7 +24,8 @@ pub struct Call {
     pub steps: Vec<u32>,
     pub gap: u32,
     pub workspace: usize,
-    pub outputs: [usize; 2],
+    /// Residues, or an opening, then indices and contrasts.
+    pub outputs: [usize; 3],
 }
 
 impl Call {
@@ -41,7 +44,7 @@ impl Call {
             steps,
             gap: 0,
             workspace: WORDS_A_PIXEL * n,
-            outputs: [n, n],
+            outputs: [n; 3],
         }
     }
 
@@ -60,10 +63,18 @@ impl Call {
         }
     }
 
-    pub fn named_map<'a>(&'a self, steps: &'a [u32]) -> Named<'a> {
+    pub fn named_map<'a>(&'a self, which: MapCall, steps: &'a [u32]) -> Named<'a> {
         Named {
             gap: Some(self.gap),
-            ..self.named(Some(steps), 2)
+            ..self.named(Some(steps), which.outputs())
+        }
+    }
+
+    /// The same call on 255 less each grey.
+    pub fn reversed(&self) -> Call {
+        Call {
+            picture: dark::reversed(&self.picture),
+            ..self.clone()
         }
     }
 }
@@ -74,14 +85,27 @@ pub trait Truth {
     fn opening(&self, attribute: u32, threshold: u32) -> Vec<u8>;
     /// At each gap.
     fn maps(&self, attribute: u32, steps: &[u32], gaps: &[u32]) -> Vec<Maps>;
+    /// What they say of 255 less each grey.
+    fn reversed(&self) -> &dyn Truth;
 }
 
-pub struct ByDefinition<'a> {
-    pub picture: &'a Picture,
-    pub levels: &'a Levels,
+pub struct ByDefinition {
+    pub picture: Picture,
+    pub levels: Levels,
+    reversed: OnceCell<Box<ByDefinition>>,
 }
 
-impl Truth for ByDefinition<'_> {
+impl ByDefinition {
+    pub fn of(picture: &Picture, neighbours: u32) -> ByDefinition {
+        ByDefinition {
+            picture: picture.clone(),
+            levels: Levels::of(picture, neighbours),
+            reversed: OnceCell::new(),
+        }
+    }
+}
+
+impl Truth for ByDefinition {
     fn record(&self, attribute: u32) -> Record {
         self.levels.record(attribute)
     }
@@ -89,7 +113,11 @@ impl Truth for ByDefinition<'_> {
         self.levels.opening(attribute, threshold)
     }
     fn maps(&self, attribute: u32, steps: &[u32], gaps: &[u32]) -> Vec<Maps> {
-        self.levels.maps(self.picture, attribute, steps, gaps)
+        self.levels.maps(&self.picture, attribute, steps, gaps)
+    }
+    fn reversed(&self) -> &dyn Truth {
+        let reversed = || ByDefinition::of(&self.picture.reversed(), self.levels.neighbours);
+        &**self.reversed.get_or_init(|| Box::new(reversed()))
     }
 }
 
@@ -102,6 +130,9 @@ impl Truth for Forest {
     }
     fn maps(&self, attribute: u32, steps: &[u32], gaps: &[u32]) -> Vec<Maps> {
         Forest::maps(self, attribute, steps, gaps)
+    }
+    fn reversed(&self) -> &dyn Truth {
+        Forest::reversed(self)
     }
 }
 
@@ -171,74 +202,165 @@ pub fn check_open(
     accepted.then(|| output.now().to_vec())
 }
 
-/// One map call: the cause due, or the workspace and both maps. Hands back the maps as they are
-/// then.
+/// What a map call writes, or has written.
+#[derive(Clone, PartialEq)]
+pub struct Written {
+    pub workspace: Vec<u32>,
+    pub maps: Maps,
+    /// Of the combined call, else empty.
+    pub contrast: Vec<i16>,
+}
+
+/// What a map call is lent for writing.
+struct Runs {
+    workspace: Lent<u32>,
+    residue: Lent<u8>,
+    index: Lent<u16>,
+    contrast: Lent<i16>,
+}
+
+impl Runs {
+    fn dirty(random: &mut Random, which: MapCall, call: &Call) -> Runs {
+        let contrasts = call.outputs[..which.outputs()].get(2);
+        Runs {
+            workspace: Lent::dirty(random, call.workspace),
+            residue: Lent::dirty(random, call.outputs[0]),
+            index: Lent::dirty(random, call.outputs[1]),
+            contrast: Lent::dirty(random, contrasts.copied().unwrap_or(0)),
+        }
+    }
+
+    fn fault(&self, due: Option<&Written>) -> Option<String> {
+        first_fault([
+            self.workspace
+                .fault("workspace", due.map(|w| &w.workspace[..])),
+            self.residue.fault("residue", due.map(|w| &w.maps.0[..])),
+            self.index.fault("index", due.map(|w| &w.maps.1[..])),
+            self.contrast
+                .fault("contrast", due.map(|w| &w.contrast[..])),
+        ])
+    }
+
+    fn maps(&self) -> Maps {
+        (self.residue.now().to_vec(), self.index.now().to_vec())
+    }
+}
+
+/// One map call: the cause due, or all that it writes. Hands back what it was lent for writing.
 fn check_one_map(
     report: &mut Report,
     random: &mut Random,
+    which: MapCall,
     call: &Call,
-    outcome: Result<(&[u32], &Maps), u32>,
-) -> Maps {
+    outcome: Result<&Written, u32>,
+) -> Runs {
     let picture = Lent::holding(random, &call.picture);
     let steps = Lent::holding(random, &call.steps);
-    let mut workspace = Lent::dirty(random, call.workspace);
-    let mut residue = Lent::dirty(random, call.outputs[0]);
-    let mut index = Lent::dirty(random, call.outputs[1]);
-    let answer = interface::map(
-        picture.now(),
-        call.numbers,
-        steps.now(),
-        call.gap,
-        workspace.now_mut(),
-        residue.now_mut(),
-        index.now_mut(),
-    );
-    let (words, maps) = outcome.ok().unzip();
-    let answer_due = due(report, "map", outcome.map(|_| 0));
+    let mut runs = Runs::dirty(random, which, call);
+    let mapping = Mapping {
+        picture: picture.now(),
+        numbers: call.numbers,
+        steps: steps.now(),
+        gap: call.gap,
+        workspace: runs.workspace.now_mut(),
+        residue: runs.residue.now_mut(),
+        index: runs.index.now_mut(),
+        contrast: runs.contrast.now_mut(),
+    };
+    let answer = interface::map(which, mapping);
+    let answer_due = due(report, which.name(), outcome.map(|_| 0));
     let fault = first_fault([
         answer_fault(answer, answer_due),
         picture.fault("picture", None),
         steps.fault("steps", None),
-        workspace.fault("workspace", words),
-        residue.fault("residue", maps.map(|(residue, _)| &residue[..])),
-        index.fault("index", maps.map(|(_, index)| &index[..])),
+        runs.fault(outcome.ok()),
     ]);
-    report.check(fault, || shown("map", call));
-    (residue.now().to_vec(), index.now().to_vec())
+    report.check(fault, || shown(which.name(), call));
+    runs
 }
 
-pub fn check_map(
-    report: &mut Report,
-    random: &mut Random,
-    call: &Call,
-    truth: &dyn Truth,
-) -> Option<Maps> {
-    match refusal(&call.named_map(&call.steps)) {
-        Ok(()) => check_gaps(report, random, call, &[call.gap], truth).pop(),
-        Err(cause) => {
-            check_one_map(report, random, call, Err(cause));
-            None
+/// What is due of an accepted map call on the picture that the truth is of.
+fn written(which: MapCall, call: &Call, truth: &dyn Truth) -> Written {
+    let attribute = call.numbers.attribute;
+    let maps = |side: &dyn Truth| side.maps(attribute, &call.steps, &[call.gap]).remove(0);
+    let left = |side: &dyn Truth| side.record(attribute).workspace();
+    match which {
+        MapCall::Light => Written {
+            workspace: left(truth),
+            maps: maps(truth),
+            contrast: Vec::new(),
+        },
+        MapCall::Dark => written(MapCall::Light, call, truth.reversed()),
+        MapCall::Combined => {
+            let (maps, contrast) = dark::combined(&maps(truth), &maps(truth.reversed()));
+            Written {
+                workspace: left(truth.reversed()),
+                maps,
+                contrast,
+            }
         }
     }
 }
 
-/// A good map call at each of these gaps in turn; hands back all that was written.
+/// Hands back all that the call wrote.
+pub fn check_map(
+    report: &mut Report,
+    random: &mut Random,
+    which: MapCall,
+    call: &Call,
+    truth: &dyn Truth,
+) -> Option<Written> {
+    let outcome = refusal(&call.named_map(which, &call.steps));
+    let due = outcome.map(|()| written(which, call, truth));
+    let due = due.as_ref().map_err(|cause| *cause);
+    let runs = check_one_map(report, random, which, call, due);
+    outcome.is_ok().then(|| Written {
+        workspace: runs.workspace.now().to_vec(),
+        maps: runs.maps(),
+        contrast: runs.contrast.now().to_vec(),
+    })
+}
+
+pub fn check_maps(report: &mut Report, random: &mut Random, call: &Call, truth: &dyn Truth) {
+    for which in MAP_CALLS {
+        check_map(report, random, which, call, truth);
+    }
+}
+
+/// A good map call at each of these gaps; hands back the maps that were written. What is dark in 255
+/// less each grey is what is light in the picture: a dark call on it is held to the same, and so is
+/// the dark side of a combined call. One of these is made at every second gap, by the turn.
 pub fn check_gaps(
     report: &mut Report,
     random: &mut Random,
     call: &Call,
     gaps: &[u32],
     truth: &dyn Truth,
+    turn: usize,
 ) -> Vec<Maps> {
-    let attribute = call.numbers.attribute;
-    let words = truth.record(attribute).workspace();
-    let maps = truth.maps(attribute, &call.steps, gaps);
-    let mut call = call.clone();
-    let mut check = |(gap, maps): (&u32, &Maps)| {
-        call.gap = *gap;
-        check_one_map(report, random, &call, Ok((&words, maps)))
+    let (mut call, mut reversed) = (call.clone(), call.reversed());
+    let (attribute, steps) = (call.numbers.attribute, call.steps.clone());
+    let maps = truth.maps(attribute, &steps, gaps);
+    let mut due = Written {
+        workspace: truth.record(attribute).workspace(),
+        maps: Maps::default(),
+        contrast: Vec::new(),
     };
-    gaps.iter().zip(&maps).map(&mut check).collect()
+    let mut written = Vec::new();
+    for ((turn, gap), light) in (turn..).zip(gaps).zip(maps) {
+        (call.gap, reversed.gap) = (*gap, *gap);
+        (due.maps, due.contrast) = (light, Vec::new());
+        let runs = check_one_map(report, random, MapCall::Light, &call, Ok(&due));
+        written.push(runs.maps());
+        if turn % 4 == 0 {
+            check_one_map(report, random, MapCall::Dark, &reversed, Ok(&due));
+        } else if turn % 4 == 2 {
+            let beside = truth.reversed().maps(attribute, &steps, &[*gap]);
+            (due.maps, due.contrast) = dark::combined(&beside[0], &due.maps);
+            check_one_map(report, random, MapCall::Combined, &reversed, Ok(&due));
+        }
+    }
+    written
 }
 
 pub fn shown(name: &str, call: &Call) -> String {
@@ -296,12 +418,29 @@ pub fn any_gap(random: &mut Random) -> u32 {
     }
 }
 
+/// Any attribute, and either number of neighbours.
+pub fn any_named(random: &mut Random) -> (u32, u32) {
+    (random.between(1, 3) as u32, random.pick(&NEIGHBOURHOODS))
+}
+
+/// A small picture, and a call that is good.
+pub fn any_good(random: &mut Random, case: usize) -> (Picture, Call) {
+    let picture = pictures::small(random, case);
+    let (attribute, neighbours) = any_named(random);
+    let steps = step_list(random, &[1, 2, 3, 5, 8, 13, 40]);
+    let call = Call {
+        gap: any_gap(random),
+        ..Call::good(&picture, attribute, neighbours, steps)
+    };
+    (picture, call)
+}
+
 type Check = fn(&mut Report, &mut Random, &Call, &dyn Truth);
 
 pub const CHECKS: [Check; 3] = [
     |report, random, call, truth| drop(check_build(report, random, call, truth)),
     |report, random, call, truth| drop(check_open(report, random, call, truth)),
-    |report, random, call, truth| drop(check_map(report, random, call, truth)),
+    check_maps,
 ];
 
 /// Sets of causes to be made to apply: each alone, each pair, all.
@@ -321,12 +460,13 @@ fn check_good(
     truth: &ByDefinition,
     attribute: u32,
 ) {
-    let values = attribute_values(truth.levels, attribute);
+    let values = attribute_values(&truth.levels, attribute);
     let steps = step_list(random, &values);
     let call = Call::good(picture, attribute, truth.levels.neighbours, steps);
     check_build(report, random, &call, truth);
     let gaps = [0, any_gap(random)];
-    let maps = check_gaps(report, random, &call, &gaps, truth);
+    let turn = random.below(4);
+    let maps = check_gaps(report, random, &call, &gaps, truth, turn);
     let some = maps[0].0.iter().any(|fall| *fall > 0);
     report.met("residues", u64::from(some));
     report.met("joined", u64::from(maps[0] != maps[1]));
@@ -350,7 +490,7 @@ fn check_damaged(
     causes: &[u32],
 ) {
     let attribute = random.between(1, 3) as u32;
-    let values = attribute_values(truth.levels, attribute);
+    let values = attribute_values(&truth.levels, attribute);
     let steps = step_list(random, &values);
     let good = Call {
         gap: any_gap(random),
@@ -369,12 +509,15 @@ fn check_damaged(
             damage::apply(random, &mut damaged, *cause);
         }
         damage::list_order(random, &mut damaged);
-        check_map(report, random, &damaged, truth);
+        check_maps(report, random, &damaged, truth);
     }
 }
 
 /// The two implementations here agree.
-fn check_fast(report: &mut Report, random: &mut Random, picture: &Picture, levels: &Levels) {
+fn check_fast(report: &mut Report, random: &mut Random, truth: &ByDefinition) {
+    let ByDefinition {
+        picture, levels, ..
+    } = truth;
     let forest = Forest::of(picture, levels.neighbours);
     let attribute = random.between(1, 3) as u32;
     let values = attribute_values(levels, attribute);
@@ -397,22 +540,20 @@ pub fn run(report: &mut Report, seed: u64, cases: usize) {
         let mut random = Random::for_case(seed, 1, case as u64);
         let picture = pictures::small(&mut random, case);
         for neighbours in NEIGHBOURHOODS {
-            let levels = Levels::of(&picture, neighbours);
-            let truth = ByDefinition {
-                picture: &picture,
-                levels: &levels,
-            };
+            let truth = ByDefinition::of(&picture, neighbours);
             for attribute in 1..=3 {
                 check_good(report, &mut random, &picture, &truth, attribute);
             }
             let causes = &damages[case % damages.len()];
             check_damaged(report, &mut random, &picture, &truth, causes);
-            check_fast(report, &mut random, &picture, &levels);
+            check_fast(report, &mut random, &truth);
         }
     }
     report.check_all_met("build", &[0, 1, 2, 3, 17, 5]);
     report.check_all_met("open", &[0, 1, 2, 3, 17, 4, 5, 6]);
-    report.check_all_met("map", &[0, 1, 2, 3, 17, 4, 19, 5, 6]);
+    for which in MAP_CALLS {
+        report.check_all_met(which.name(), &[0, 1, 2, 3, 17, 4, 19, 5, 6]);
+    }
     println!("  maps of good calls without residues (0) or with some (1):");
     report.check_all_met("residues", &[0, 1]);
     println!("  with another gap the same maps (0) or others (1):");

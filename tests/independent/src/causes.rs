@@ -1,6 +1,8 @@
 // The scope, "Causes and their numbers", and the requests that a call names 4 or 8 neighbours, that
-// a map call names a gap, and that a workspace has room for the list of nodes: what is refused, in
-// its order.
+// a map call names a gap, that a workspace has room for the list of nodes, and that a viewer names
+// a row and a side: what is refused, in its order.
+
+use crate::interface::View;
 
 pub const MOST_SIDE: u64 = 4096;
 pub const MOST_PIXELS: u64 = 1_048_576;
@@ -61,6 +63,22 @@ fn applies(call: &Named, n: usize, cause: u32) -> bool {
         5 => call.workspace != WORDS_A_PIXEL * n,
         _ => call.outputs.iter().any(|entries| *entries != n),
     }
+}
+
+/// Light and dark, as a viewer names them.
+pub const SIDES: [u32; 2] = [1, 2];
+
+/// The first cause that applies to a viewer that is lent maps of so many entries, light and dark:
+/// of 1, of 6, which covers both maps, whichever side is named, and of 16.
+pub fn view_refusal(view: View, maps: [usize; 2]) -> Result<(), u32> {
+    let n = pixels(view.width, view.height)?;
+    if maps != [n, n] {
+        return Err(6);
+    }
+    if view.row >= view.height || !SIDES.contains(&view.side) {
+        return Err(16);
+    }
+    Ok(())
 }
 
 /// The first cause that applies.

@@ -3,22 +3,23 @@
 // and where the accepted thresholds are a step list, the falls are what the map call writes at gap
 // 0, and joined what it writes at another. One neighbourhood is named in all accepted calls, the
 // single opening and the map call, and levelings are judged by it. A list that mixes neighbourhoods
-// is no chain: only each of its calls by itself is held to the definitions.
+// is no chain: only each of its calls by itself is held to the definitions. The same holds of the
+// reversed original, whose falls are what the dark map call on the original writes.
 
-use crate::calls::{any_gap, attribute_values, check_gaps, check_open, step_list, threshold};
+use crate::calls::{any_gap, attribute_values, check_map, check_open, step_list, threshold};
 use crate::calls::{ByDefinition, Call};
 use crate::causes::{is_step_list, refusal, NEIGHBOURHOODS, ORDER};
 use crate::damage;
-use crate::definition::{is_leveling, joined_falls, largest_falls, Levels, Picture};
+use crate::definition::{is_leveling, joined_falls, largest_falls, Picture};
+use crate::interface::MapCall;
 use crate::pictures;
 use crate::random::Random;
 use crate::report::Report;
 use crate::table::rows;
 
 struct Chain {
-    original: Picture,
-    /// Those of the original, under the chain's neighbourhood.
-    levels: Levels,
+    /// Under the chain's neighbourhood.
+    original: ByDefinition,
     attribute: u32,
     /// The original and the output of each accepted call.
     pictures: Vec<Vec<u8>>,
@@ -29,10 +30,14 @@ struct Chain {
 }
 
 impl Chain {
+    fn neighbours(&self) -> u32 {
+        self.original.levels.neighbours
+    }
+
     fn current(&self) -> Picture {
         Picture {
             greys: self.pictures[self.accepted.len()].clone(),
-            ..self.original.clone()
+            ..self.original.picture
         }
     }
 
@@ -46,23 +51,22 @@ impl Chain {
         let current = self.current();
         let named = call.numbers.neighbours;
         let known = NEIGHBOURHOODS.contains(&named);
-        let levels = Levels::of(&current, if known { named } else { 4 });
-        let truth = ByDefinition {
-            picture: &current,
-            levels: &levels,
-        };
+        let truth = ByDefinition::of(&current, if known { named } else { 4 });
         self.calls += 1;
         if let Some(output) = check_open(report, random, call, &truth) {
             self.pictures.push(output);
             self.accepted.push(call.steps[0]);
-            self.mixed |= named != self.levels.neighbours;
+            self.mixed |= named != self.neighbours();
         }
     }
 
     fn shown(&self) -> String {
         format!(
             "chain of {:?}: {:?} attribute {}, {} neighbours",
-            self.accepted, self.original, self.attribute, self.levels.neighbours
+            self.accepted,
+            self.original.picture,
+            self.attribute,
+            self.neighbours()
         )
     }
 }
@@ -102,21 +106,18 @@ fn thresholds(random: &mut Random, values: &[u32]) -> Vec<u32> {
     (0..count).map(|_| threshold(random, values)).collect()
 }
 
-fn make(report: &mut Report, random: &mut Random, case: usize) -> Chain {
-    let original = pictures::small(random, case);
+fn make(report: &mut Report, random: &mut Random, original: &Picture) -> Chain {
     let neighbours = random.pick(&NEIGHBOURHOODS);
-    let levels = Levels::of(&original, neighbours);
     let attribute = random.between(1, 3) as u32;
-    let values = attribute_values(&levels, attribute);
     let mut chain = Chain {
         pictures: vec![original.greys.clone()],
-        original,
-        levels,
+        original: ByDefinition::of(original, neighbours),
         attribute,
         accepted: Vec::new(),
         mixed: false,
         calls: 0,
     };
+    let values = attribute_values(&chain.original.levels, attribute);
     let mixing = random.chance(1, 10);
     let mut due = thresholds(random, &values);
     due.truncate(if random.chance(1, 20) { 300 } else { 20 });
@@ -141,56 +142,56 @@ fn make(report: &mut Report, random: &mut Random, case: usize) -> Chain {
 
 /// One single opening of the original beside the chain's picture.
 fn check_single(report: &mut Report, random: &mut Random, chain: &Chain, single: u32) {
-    let truth = ByDefinition {
-        picture: &chain.original,
-        levels: &chain.levels,
-    };
-    let neighbours = chain.levels.neighbours;
-    let call = Call::good(&chain.original, chain.attribute, neighbours, vec![single]);
-    let Some(opened) = check_open(report, random, &call, &truth) else {
+    let original = &chain.original;
+    let (attribute, neighbours) = (chain.attribute, chain.neighbours());
+    let call = Call::good(&original.picture, attribute, neighbours, vec![single]);
+    let Some(opened) = check_open(report, random, &call, original) else {
         return;
     };
     let largest = chain.largest();
     let range = largest.min(single)..largest.max(single);
-    let between = chain
-        .levels
-        .removable(chain.attribute)
-        .any(|a| range.contains(&a));
+    let mut removable = original.levels.removable(attribute);
+    let between = removable.any(|a| range.contains(&a));
     let equal = opened == chain.current().greys;
     let fault = (equal == between).then(|| format!("single opening at {single}: equal is {equal}"));
     report.met("single opening", u64::from(between));
     report.check(fault, || chain.shown());
-    let leveling = is_leveling(&chain.original, neighbours, &opened);
+    let leveling = is_leveling(&original.picture, neighbours, &opened);
     let fault = (!leveling).then(|| format!("opening at {single} is no leveling"));
     report.check(fault, || chain.shown());
 }
 
-fn check_falls(report: &mut Report, random: &mut Random, chain: &Chain) {
+/// The falls of the chain beside what this map call writes: the light one on its original, or the
+/// dark one on the picture whose reversal its original is.
+fn check_falls(report: &mut Report, random: &mut Random, chain: &Chain, which: MapCall) {
     if !is_step_list(&chain.accepted) {
         return;
     }
-    let truth = ByDefinition {
-        picture: &chain.original,
-        levels: &chain.levels,
+    let given = match which {
+        MapCall::Light => chain.original.picture.clone(),
+        _ => chain.original.picture.reversed(),
     };
-    let (neighbours, steps) = (chain.levels.neighbours, chain.accepted.clone());
-    let call = Call::good(&chain.original, chain.attribute, neighbours, steps);
-    let gap = any_gap(random);
-    let written = check_gaps(report, random, &call, &[0, gap], &truth);
-    let fault = (written[0] != largest_falls(&chain.pictures))
-        .then(|| String::from("falls are not the maps"));
-    report.check(fault, || chain.shown());
-    let fault = (written[1..] != joined_falls(&chain.pictures, &[gap]))
-        .then(|| format!("falls joined at gap {gap} are not the maps"));
-    report.check(fault, || chain.shown());
+    let truth = ByDefinition::of(&given, chain.neighbours());
+    let (neighbours, steps) = (chain.neighbours(), chain.accepted.clone());
+    let mut call = Call::good(&given, chain.attribute, neighbours, steps);
+    let further = any_gap(random);
+    let mut falls = vec![largest_falls(&chain.pictures)];
+    falls.extend(joined_falls(&chain.pictures, &[further]));
+    for (gap, falls) in [0, further].into_iter().zip(falls) {
+        call.gap = gap;
+        let written = check_map(report, random, which, &call, &truth);
+        let same = written.is_some_and(|written| written.maps == falls);
+        let fault = (!same).then(|| format!("falls at gap {gap} are no {}", which.name()));
+        report.check(fault, || chain.shown());
+    }
 }
 
-fn check_chain(report: &mut Report, random: &mut Random, chain: &Chain) {
+fn check_chain(report: &mut Report, random: &mut Random, chain: &Chain, which: MapCall) {
     let new = chain.current().greys;
-    let leveling = is_leveling(&chain.original, chain.levels.neighbours, &new);
+    let leveling = is_leveling(&chain.original.picture, chain.neighbours(), &new);
     let fault = (!leveling).then(|| String::from("the chain's picture is no leveling"));
     report.check(fault, || chain.shown());
-    let values = attribute_values(&chain.levels, chain.attribute);
+    let values = attribute_values(&chain.original.levels, chain.attribute);
     for _ in 0..3 {
         let single = threshold(random, &values);
         check_single(report, random, chain, single);
@@ -198,7 +199,7 @@ fn check_chain(report: &mut Report, random: &mut Random, chain: &Chain) {
     if !chain.accepted.is_empty() {
         check_single(report, random, chain, chain.largest());
     }
-    check_falls(report, random, chain);
+    check_falls(report, random, chain, which);
 }
 
 /// A picture whose corner breaks off under 4: opened there it is no leveling under 8, and a list
@@ -212,11 +213,7 @@ fn check_corner(report: &mut Report, random: &mut Random) {
     ];
     for (neighbours, due, levelings) in cases {
         let due = pictures::ring(inside.width, &due, 0);
-        let levels = Levels::of(&picture, neighbours);
-        let truth = ByDefinition {
-            picture: &picture,
-            levels: &levels,
-        };
+        let truth = ByDefinition::of(&picture, neighbours);
         let call = Call::good(&picture, 1, neighbours, vec![2]);
         let opened = check_open(report, random, &call, &truth);
         let judged = NEIGHBOURHOODS.map(|by| is_leveling(&picture, by, &due));
@@ -231,15 +228,23 @@ pub fn run(report: &mut Report, seed: u64, cases: usize) {
     let (mut calls, mut mixed) = (0, 0);
     for case in 0..cases {
         let mut random = Random::for_case(seed, 2, case as u64);
-        let chain = make(report, &mut random, case);
-        calls += chain.calls;
-        if chain.mixed {
-            mixed += 1;
-        } else {
-            check_chain(report, &mut random, &chain);
+        let picture = pictures::small(&mut random, case);
+        let sides = [
+            (MapCall::Dark, picture.reversed()),
+            (MapCall::Light, picture),
+        ];
+        for (which, original) in sides {
+            let chain = make(report, &mut random, &original);
+            calls += chain.calls;
+            if chain.mixed {
+                mixed += 1;
+            } else {
+                check_chain(report, &mut random, &chain, which);
+            }
         }
     }
-    println!("  {calls} calls in {cases} lists, of which {mixed} mix neighbourhoods;");
+    let lists = 2 * cases;
+    println!("  {calls} calls in {lists} lists, of which {mixed} mix neighbourhoods;");
     println!("  single openings equal to chains (0) or not (1):");
     report.check_all_met("single opening", &[0, 1]);
 }

@@ -197,14 +197,11 @@ pub fn list_order(random: &mut Random, call: &mut Call) {
     }
 }
 
+/// One of the three, two or all.
 fn outputs(random: &mut Random, call: &mut Call) {
-    let due = call.outputs[0];
-    let which = random.below(3);
-    let wrong = other_length(random, due, due / 2);
-    if which != 1 {
-        call.outputs[0] = wrong;
-    }
-    if which != 0 {
-        call.outputs[1] = other_length(random, due, due / 2);
+    let chosen = random.between(1, 7);
+    for which in (0..3).filter(|which| chosen >> which & 1 == 1) {
+        let due = call.outputs[which];
+        call.outputs[which] = other_length(random, due, due / 2);
     }
 }

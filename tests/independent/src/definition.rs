@@ -1,10 +1,11 @@
 // The scope, "Picture, nodes, openings", "Steps and maps" and "Tree record", word for word: level
 // sets, components by flood fill, nodes, representatives, parents, openings, residues; and the
 // requests on floc cut by the frame and on the list of nodes. How residues are joined stands in
-// runs.rs. Nothing here is meant to be fast. How many neighbours there are, 4 or 8, is named
-// wherever it matters.
+// runs.rs, and what is said of dark floc in dark.rs. Nothing here is meant to be fast. How many
+// neighbours there are, 4 or 8, is named wherever it matters.
 
 use crate::causes::{NEIGHBOURHOODS, WORDS_A_PIXEL};
+use crate::dark;
 use crate::runs::{self, Maps};
 
 /// Each attribute of a set with a pixel in the first or last row or column. No threshold is above.
@@ -24,6 +25,13 @@ impl Picture {
 
     pub fn least(&self) -> u8 {
         *self.greys.iter().min().expect("a picture has a pixel")
+    }
+
+    pub fn reversed(&self) -> Picture {
+        Picture {
+            greys: dark::reversed(&self.greys),
+            ..*self
+        }
     }
 
     /// Of 4 neighbours each shares an edge with p, of 8 an edge or a corner.

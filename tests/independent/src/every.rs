@@ -4,7 +4,7 @@
 
 use crate::calls::{check_build, check_gaps, check_open, ByDefinition, Call};
 use crate::causes::{MOST_GAP, MOST_THRESHOLD, NEIGHBOURHOODS};
-use crate::definition::{Levels, Picture};
+use crate::definition::Picture;
 use crate::pictures::ringed;
 use crate::random::Random;
 use crate::report::Report;
@@ -38,7 +38,8 @@ const INSIDES: [(usize, usize, usize); 7] = [
 /// Unevenly apart, so that falls differ.
 const GREYS: [u8; 4] = [7, 8, 100, 255];
 
-/// Beside 0. They are taken in turn, so that a picture meets all of them.
+/// Beside 0. They are taken in turn, so that a picture meets all of them; so are the dark and the
+/// combined call, at gap 0 and at another.
 const GAPS: [u32; 4] = [1, 2, MOST_GAP - 1, MOST_GAP];
 
 /// The picture whose greys are the digits of the number.
@@ -67,15 +68,11 @@ fn check(
     picture: &Picture,
     neighbours: u32,
     most: u32,
-    turn: usize,
+    (first, number): (usize, usize),
 ) {
-    let levels = Levels::of(picture, neighbours);
-    let truth = ByDefinition {
-        picture,
-        levels: &levels,
-    };
+    let truth = ByDefinition::of(picture, neighbours);
     let thresholds: Vec<u32> = (1..=most + 1).chain([MOST_THRESHOLD]).collect();
-    for (turn, attribute) in (turn..).zip(1..=3) {
+    for (place, attribute) in (first..).zip(1..=3) {
         let mut steps = thresholds.clone();
         steps.retain(|_| random.chance(2, 3));
         let single = random.pick(&thresholds);
@@ -84,8 +81,9 @@ fn check(
         check_open(report, random, &call, &truth);
         if !steps.is_empty() {
             let call = Call::good(picture, attribute, neighbours, steps);
-            let gaps = [0, GAPS[turn % GAPS.len()]];
-            check_gaps(report, random, &call, &gaps, &truth);
+            let gaps = [0, GAPS[(place + number) % GAPS.len()]];
+            let turn = place + number / GAPS.len();
+            check_gaps(report, random, &call, &gaps, &truth, turn);
         }
     }
 }
@@ -97,7 +95,7 @@ pub fn run(report: &mut Report, seed: u64) {
             let most = pixels(shape);
             for number in 0..shape.2.pow(most) {
                 let picture = picture(shape, number);
-                let turn = first + number;
+                let turn = (first, number);
                 check(report, &mut random, &picture, neighbours, most, turn);
             }
         }
@@ -106,7 +104,7 @@ pub fn run(report: &mut Report, seed: u64) {
             for number in 0..shape.2.pow(most) {
                 for grey in &GREYS[..2] {
                     let picture = ringed(&picture(shape, number), *grey);
-                    let turn = first + number;
+                    let turn = (first, number);
                     check(report, &mut random, &picture, neighbours, most, turn);
                 }
             }

@@ -6,10 +6,10 @@
 // frame, parents and list are the second program's. Then random pictures, on which the library is
 // held to the laws as well.
 
-use crate::calls::{any_gap, attribute_values, check_build, check_gaps, check_map, check_open};
+use crate::calls::{any_gap, attribute_values, check_build, check_gaps, check_open};
 use crate::calls::{shown, step_list, threshold, ByDefinition, Call, Truth};
 use crate::causes::{MOST_THRESHOLD, NEIGHBOURHOODS};
-use crate::definition::{Levels, Picture, Record, CUT};
+use crate::definition::{Picture, Record, CUT};
 use crate::fast::Forest;
 use crate::nest::{Nest, Rectangle};
 use crate::pictures::{self, KINDS};
@@ -17,6 +17,7 @@ use crate::random::Random;
 use crate::report::Report;
 use crate::runs::Maps;
 use crate::table::{rows, Table, AREA, HEIGHT, WIDTH};
+use std::cell::OnceCell;
 
 /// The tree, the maps, and the opening at each step, in the programs here and in the library. Where
 /// steps are at each size and one above it, residues are one or two places apart.
@@ -40,7 +41,8 @@ fn check(
         report.check(fault, || shown("tree, maps and openings", call));
     }
     check_build(report, random, call, by_hand);
-    check_gaps(report, random, call, &gaps, by_hand);
+    let turn = random.below(4);
+    check_gaps(report, random, call, &gaps, by_hand, turn);
     check_openings(report, random, call, by_hand);
 }
 
@@ -55,13 +57,26 @@ fn check_openings(report: &mut Report, random: &mut Random, call: &Call, by_hand
 }
 
 /// Everything is frame: all nodes have 1,048,577, openings change nothing, all maps are zero.
-struct AllFrame<'a> {
-    picture: &'a Picture,
+struct AllFrame {
+    picture: Picture,
+    neighbours: u32,
     /// Parents and the list of nodes, which the frame has no part in.
     tree: Record,
+    reversed: OnceCell<Box<AllFrame>>,
 }
 
-impl Truth for AllFrame<'_> {
+impl AllFrame {
+    fn of(picture: &Picture, neighbours: u32) -> AllFrame {
+        AllFrame {
+            picture: picture.clone(),
+            neighbours,
+            tree: Forest::of(picture, neighbours).record(AREA),
+            reversed: OnceCell::new(),
+        }
+    }
+}
+
+impl Truth for AllFrame {
     fn record(&self, _: u32) -> Record {
         let greys = &self.picture.greys;
         let word = |(p, parent): (usize, &u32)| {
@@ -86,6 +101,10 @@ impl Truth for AllFrame<'_> {
         let n = self.picture.pixels();
         vec![(vec![0; n], vec![0; n]); gaps.len()]
     }
+    fn reversed(&self) -> &dyn Truth {
+        let reversed = || AllFrame::of(&self.picture.reversed(), self.neighbours);
+        &**self.reversed.get_or_init(|| Box::new(reversed()))
+    }
 }
 
 /// Thresholds about 1, about n and at the end of the range.
@@ -99,13 +118,9 @@ fn thresholds(n: usize) -> Vec<u32> {
 
 fn check_all_frame(report: &mut Report, random: &mut Random, picture: &Picture) {
     for neighbours in NEIGHBOURHOODS {
-        let levels = &Levels::of(picture, neighbours);
-        let plain = ByDefinition { picture, levels };
+        let plain = ByDefinition::of(picture, neighbours);
         let forest = Forest::of(picture, neighbours);
-        let by_hand = AllFrame {
-            picture,
-            tree: forest.record(AREA),
-        };
+        let by_hand = AllFrame::of(picture, neighbours);
         for attribute in 1..=3 {
             let steps = thresholds(picture.pixels());
             let call = Call::good(picture, attribute, neighbours, steps);
@@ -160,8 +175,7 @@ fn without_ring(table: &mut Table) {
 fn check_nest(report: &mut Report, random: &mut Random, nest: &Nest) {
     let picture = &nest.picture;
     for neighbours in NEIGHBOURHOODS {
-        let levels = &Levels::of(picture, neighbours);
-        let plain = ByDefinition { picture, levels };
+        let plain = ByDefinition::of(picture, neighbours);
         let forest = Forest::of(picture, neighbours);
         for attribute in 1..=3 {
             let call = Call::good(picture, attribute, neighbours, nest.steps(attribute));
@@ -198,7 +212,7 @@ fn all_but_frame(report: &mut Report, random: &mut Random, nest: &Nest, turn: us
     for attribute in 1..=3 {
         let steps = nest.steps(attribute);
         let call = Call::good(&nest.picture, attribute, neighbours, steps);
-        check_map(report, random, &call, nest);
+        check_gaps(report, random, &call, &[0], nest, 2 * turn);
         let size = nest.attributes[1][attribute as usize - 1];
         let call = Call {
             steps: vec![size, size + 1],
@@ -238,7 +252,7 @@ fn largest(report: &mut Report, random: &mut Random) {
             let nest = Nest::new(&[whole, floc]);
             let (attribute, neighbours) = (1 + side as u32 % 3, NEIGHBOURHOODS[side % 2]);
             let call = Call::good(&nest.picture, attribute, neighbours, vec![MOST_THRESHOLD]);
-            check_map(report, random, &call, &nest);
+            check_gaps(report, random, &call, &[0], &nest, 0);
         }
     }
 }
@@ -411,17 +425,20 @@ fn opening_fault(call: &Call, picture: &Picture, opened: &[u8]) -> Option<String
     faults.into_iter().flatten().next().map(String::from)
 }
 
-fn check_laws(report: &mut Report, random: &mut Random, picture: &Picture, levels: &Levels) {
-    let truth = ByDefinition { picture, levels };
+fn check_laws(report: &mut Report, random: &mut Random, truth: &ByDefinition) {
+    let ByDefinition {
+        picture, levels, ..
+    } = truth;
     for attribute in 1..=3 {
         let values = attribute_values(levels, attribute);
         let steps = step_list(random, &values);
         let call = Call::good(picture, attribute, levels.neighbours, steps);
-        let built = check_build(report, random, &call, &truth);
+        let built = check_build(report, random, &call, truth);
         let fault = built.and_then(|words| record_fault(&call, &words));
         report.check(fault, || shown("record", &call));
         let gaps = [0, any_gap(random)];
-        for maps in check_gaps(report, random, &call, &gaps, &truth) {
+        let turn = random.below(4);
+        for maps in check_gaps(report, random, &call, &gaps, truth, turn) {
             report.check(maps_fault(&call, &maps), || shown("maps", &call));
         }
         for t in [threshold(random, &values), MOST_THRESHOLD] {
@@ -429,7 +446,7 @@ fn check_laws(report: &mut Report, random: &mut Random, picture: &Picture, level
                 steps: vec![t],
                 ..call.clone()
             };
-            let opened = check_open(report, random, &single, &truth);
+            let opened = check_open(report, random, &single, truth);
             let fault = opened.and_then(|greys| opening_fault(&single, picture, &greys));
             report.check(fault, || shown("opening", &single));
         }
@@ -458,8 +475,8 @@ pub fn run(report: &mut Report, seed: u64, cases: usize) {
         let mut random = Random::for_case(seed, 10, case as u64);
         let picture = pictures::small(&mut random, case);
         for neighbours in NEIGHBOURHOODS {
-            let levels = Levels::of(&picture, neighbours);
-            check_laws(report, &mut random, &picture, &levels);
+            let truth = ByDefinition::of(&picture, neighbours);
+            check_laws(report, &mut random, &truth);
         }
     }
     println!("  nodes but the root as visible (0) or cut by the frame (1):");

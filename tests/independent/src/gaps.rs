@@ -6,12 +6,13 @@
 // other causes; then random pictures, on which the library is held to what follows from the rule,
 // and to equation 6 of source document 001. The programs here are held to the same.
 
-use crate::calls::{any_gap, attribute_values, check_gaps, check_map, shown, step_list};
-use crate::calls::{ByDefinition, Call, Truth};
+use crate::calls::{any_gap, any_good, any_named, attribute_values, check_gaps, check_maps};
+use crate::calls::{shown, step_list, ByDefinition, Call, Truth};
 use crate::causes::{refusal, MOST_GAP, MOST_STEPS, MOST_THRESHOLD, NEIGHBOURHOODS, ORDER};
 use crate::damage;
 use crate::definition::{largest_falls, Levels, Picture, Record, CUT};
 use crate::fast::Forest;
+use crate::interface::MapCall;
 use crate::large;
 use crate::pictures::{self, in_ring};
 use crate::random::Random;
@@ -187,7 +188,8 @@ impl Hill {
         let call = Call::good(&picture, attribute, neighbours, steps.to_vec());
         let fault = (!same).then(|| format!("programs here: not as chosen, gaps {gaps:?}"));
         report.check(fault, || shown("hill", &call));
-        check_gaps(report, random, &call, gaps, &forest);
+        let turn = random.below(4);
+        check_gaps(report, random, &call, gaps, &forest, turn);
     }
 }
 
@@ -208,10 +210,6 @@ fn from_each(residues: &[u8], gap: u32) -> (u8, u16) {
         }
     }
     largest
-}
-
-fn any_named(random: &mut Random) -> (u32, u32) {
-    (random.between(1, 3) as u32, random.pick(&NEIGHBOURHOODS))
 }
 
 /// Every list of a few residues, in turn with a floc around all that the frame cuts: by all steps,
@@ -397,14 +395,17 @@ fn laws_fault(
 }
 
 fn check_laws(report: &mut Report, random: &mut Random, truth: &ByDefinition, attribute: u32) {
-    let ByDefinition { picture, levels } = truth;
+    let ByDefinition {
+        picture, levels, ..
+    } = truth;
     let values = attribute_values(levels, attribute);
     let steps = step_list(random, &values);
     let (near, all) = (random.between(1, 4) as u32, steps.len() as u32 - 1);
     let mut gaps = [0, near, any_gap(random), all, MOST_GAP];
     gaps.sort_unstable();
     let call = Call::good(picture, attribute, levels.neighbours, steps);
-    let maps = check_gaps(report, random, &call, &gaps, truth);
+    let turn = random.below(4);
+    let maps = check_gaps(report, random, &call, &gaps, truth, turn);
     let openings = levels.openings(picture, attribute, &call.steps);
     let fault = laws_fault(report, &openings, &gaps, &maps);
     report.check(fault, || shown("laws", &call));
@@ -450,7 +451,8 @@ fn check_equation(
     }
     let gaps = [0, 1, random.between(2, 9) as u32, any_gap(random)];
     let call = Call::good(picture, attribute, neighbours, steps);
-    let maps = check_gaps(report, random, &call, &gaps, truth);
+    let turn = random.below(4);
+    let maps = check_gaps(report, random, &call, &gaps, truth, turn);
     for (gap, (residue, _)) in gaps.into_iter().zip(&maps) {
         let same = *residue == equation_6(&picture.greys, &record, gap);
         let fault = (!same).then(|| format!("not by equation 6, gap {gap}"));
@@ -493,32 +495,23 @@ fn every_gap(report: &mut Report, random: &mut Random) {
             let forest = Forest::of(&picture, neighbours);
             let mut call = Call::good(&picture, attribute, neighbours, steps.clone());
             let accepted: Vec<u32> = (0..=MOST_GAP).collect();
-            check_gaps(report, random, &call, &accepted, &forest);
+            for turn in 0..4 {
+                check_gaps(report, random, &call, &accepted, &forest, turn);
+            }
             for gap in MOST_GAP + 1..2 * MOST_GAP + 9 {
                 call.gap = gap;
-                check_map(report, random, &call, &forest);
+                check_maps(report, random, &call, &forest);
             }
         }
     }
 }
 
-/// A small picture, and a call that is good.
-fn any_good(random: &mut Random, case: usize) -> (Picture, Call) {
-    let picture = pictures::small(random, case);
-    let (attribute, neighbours) = any_named(random);
-    let steps = step_list(random, &[1, 2, 3, 5, 8, 13, 40]);
-    let call = Call {
-        gap: any_gap(random),
-        ..Call::good(&picture, attribute, neighbours, steps)
-    };
-    (picture, call)
-}
-
 /// A call that is refused, so that nothing is asked of the picture's tree.
 fn check_refused(report: &mut Report, random: &mut Random, picture: &Picture, call: &Call) {
     let forest = Forest::of(picture, 4);
-    check_map(report, random, call, &forest);
-    let cause = refusal(&call.named_map(&call.steps)).expect_err("the gap is wrong");
+    check_maps(report, random, call, &forest);
+    let cause =
+        refusal(&call.named_map(MapCall::Light, &call.steps)).expect_err("the gap is wrong");
     report.met("wrong gap", u64::from(cause));
 }
 
@@ -585,8 +578,7 @@ pub fn run(report: &mut Report, seed: u64, cases: usize) {
         let picture = &in_ring(&pictures::small(&mut random, case));
         let attribute = 1 + case as u32 % 3;
         for neighbours in NEIGHBOURHOODS {
-            let levels = &Levels::of(picture, neighbours);
-            let truth = ByDefinition { picture, levels };
+            let truth = ByDefinition::of(picture, neighbours);
             check_laws(report, &mut random, &truth, attribute);
             let named = (attribute, neighbours);
             check_equation(report, &mut random, picture, &truth, named);

@@ -1,4 +1,4 @@
-// The five functions of libteldruf.a as a host calls them. Each run is lent whole, as a slice; so
+// The eight functions of libteldruf.a as a host calls them. Each run is lent whole, as a slice; so
 // runs lent in one call are apart.
 
 extern "C" {
@@ -51,6 +51,52 @@ extern "C" {
         residue_len: usize,
         index: *mut u16,
         index_len: usize,
+    ) -> u64;
+    fn teldruf_dark_map(
+        picture: *const u8,
+        picture_len: usize,
+        width: u32,
+        height: u32,
+        attribute: u32,
+        neighbours: u32,
+        steps: *const u32,
+        steps_len: usize,
+        gap: u32,
+        workspace: *mut u32,
+        workspace_len: usize,
+        residue: *mut u8,
+        residue_len: usize,
+        index: *mut u16,
+        index_len: usize,
+    ) -> u64;
+    fn teldruf_combined_map(
+        picture: *const u8,
+        picture_len: usize,
+        width: u32,
+        height: u32,
+        attribute: u32,
+        neighbours: u32,
+        steps: *const u32,
+        steps_len: usize,
+        gap: u32,
+        workspace: *mut u32,
+        workspace_len: usize,
+        residue: *mut u8,
+        residue_len: usize,
+        index: *mut u16,
+        index_len: usize,
+        contrast: *mut i16,
+        contrast_len: usize,
+    ) -> u64;
+    fn teldruf_view_row(
+        light: *const u8,
+        light_len: usize,
+        dark: *const u8,
+        dark_len: usize,
+        width: u32,
+        height: u32,
+        row: u32,
+        side: u32,
     ) -> u64;
 }
 
@@ -121,32 +167,104 @@ pub fn open(
     }
 }
 
-pub fn map(
-    picture: &[u8],
-    numbers: Numbers,
-    steps: &[u32],
-    gap: u32,
-    workspace: &mut [u32],
-    residue: &mut [u8],
-    index: &mut [u16],
-) -> u64 {
+/// The three map calls: of the picture, of 255 less each grey, and of both.
+#[derive(Clone, Copy, Debug, PartialEq)]
+pub enum MapCall {
+    Light,
+    Dark,
+    Combined,
+}
+
+pub const MAP_CALLS: [MapCall; 3] = [MapCall::Light, MapCall::Dark, MapCall::Combined];
+
+impl MapCall {
+    pub fn name(self) -> &'static str {
+        match self {
+            MapCall::Light => "map",
+            MapCall::Dark => "dark map",
+            MapCall::Combined => "combined map",
+        }
+    }
+
+    /// Residues, indices and, of the combined call, contrasts.
+    pub fn outputs(self) -> usize {
+        match self {
+            MapCall::Light | MapCall::Dark => 2,
+            MapCall::Combined => 3,
+        }
+    }
+}
+
+/// What a map call names and is lent.
+pub struct Mapping<'a> {
+    pub picture: &'a [u8],
+    pub numbers: Numbers,
+    pub steps: &'a [u32],
+    pub gap: u32,
+    pub workspace: &'a mut [u32],
+    pub residue: &'a mut [u8],
+    pub index: &'a mut [u16],
+    /// Lent to the combined call alone.
+    pub contrast: &'a mut [i16],
+}
+
+/// The arguments of each map call, in their order.
+macro_rules! made {
+    ($call:ident, $lent:expr $(, $further:expr)*) => {
+        unsafe {
+            $call(
+                $lent.picture.as_ptr(),
+                $lent.picture.len(),
+                $lent.numbers.width,
+                $lent.numbers.height,
+                $lent.numbers.attribute,
+                $lent.numbers.neighbours,
+                $lent.steps.as_ptr(),
+                $lent.steps.len(),
+                $lent.gap,
+                $lent.workspace.as_mut_ptr(),
+                $lent.workspace.len(),
+                $lent.residue.as_mut_ptr(),
+                $lent.residue.len(),
+                $lent.index.as_mut_ptr(),
+                $lent.index.len(),
+                $($further,)*
+            )
+        }
+    };
+}
+
+pub fn map(call: MapCall, lent: Mapping) -> u64 {
+    match call {
+        MapCall::Light => made!(teldruf_map, lent),
+        MapCall::Dark => made!(teldruf_dark_map, lent),
+        MapCall::Combined => {
+            let (contrast, entries) = (lent.contrast.as_mut_ptr(), lent.contrast.len());
+            made!(teldruf_combined_map, lent, contrast, entries)
+        }
+    }
+}
+
+/// The numbers that a viewer names.
+#[derive(Clone, Copy, Debug)]
+pub struct View {
+    pub width: u32,
+    pub height: u32,
+    pub row: u32,
+    pub side: u32,
+}
+
+pub fn view_row(light: &[u8], dark: &[u8], view: View) -> u64 {
     unsafe {
-        teldruf_map(
-            picture.as_ptr(),
-            picture.len(),
-            numbers.width,
-            numbers.height,
-            numbers.attribute,
-            numbers.neighbours,
-            steps.as_ptr(),
-            steps.len(),
-            gap,
-            workspace.as_mut_ptr(),
-            workspace.len(),
-            residue.as_mut_ptr(),
-            residue.len(),
-            index.as_mut_ptr(),
-            index.len(),
+        teldruf_view_row(
+            light.as_ptr(),
+            light.len(),
+            dark.as_ptr(),
+            dark.len(),
+            view.width,
+            view.height,
+            view.row,
+            view.side,
         )
     }
 }

@@ -1,6 +1,7 @@
 // A few large pictures, at the bounds of the sides and of n, against the fast implementation: as
 // they stand, and set in a ring where otherwise the frame would cut all that is in them. Each is
-// mapped at gap 0, and under one of the neighbourhoods at another gap too.
+// mapped at gap 0, and under one of the neighbourhoods at another gap too; what is dark in 255 less
+// each grey is compared at one of the two.
 
 use crate::calls::{check_build, check_gaps, check_open, Call};
 use crate::causes::NEIGHBOURHOODS;
@@ -71,8 +72,11 @@ fn check(report: &mut Report, random: &mut Random, picture: &Picture, case: usiz
             check_build(report, random, &call, &forest);
             if attribute as usize == 1 + (case + turn) % 3 {
                 let further = GAPS[case % GAPS.len()];
-                let gaps = &[0, further][..1 + (case + turn) % 2];
-                check_gaps(report, random, &call, gaps, &forest);
+                let (gaps, turn) = match (case + turn) % 2 {
+                    0 => (&[0][..], 0),
+                    _ => (&[0, further][..], 1 + case % 3),
+                };
+                check_gaps(report, random, &call, gaps, &forest, turn);
             }
             let single = random.pick(&[2, 5, 12, 60, 900, 1024, 1_048_576, 1_048_577]);
             let call = Call::good(picture, attribute, neighbours, vec![single]);

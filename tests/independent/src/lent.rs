@@ -20,6 +20,12 @@ impl Entry for u16 {
     }
 }
 
+impl Entry for i16 {
+    fn cut(word: u64) -> i16 {
+        word as i16
+    }
+}
+
 impl Entry for u32 {
     fn cut(word: u64) -> u32 {
         word as u32

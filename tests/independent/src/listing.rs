@@ -1,7 +1,7 @@
 // The list of nodes, in the words of its request: after parents and attributes comes a part with
 // the representatives by rising level, lower position first within a level, and zeros after the
 // last; scratch follows, zero on return; the root always comes first and every parent before its
-// children. The three calls are made in workspaces that hold all sorts of things. What they leave
+// children. The five calls are made in workspaces that hold all sorts of things. What they leave
 // is read entry by entry and is compared with no other list, save on pictures that are made so that
 // theirs is known. The programs here are held to the same words. Then workspaces that are not 7n
 // words.
@@ -9,10 +9,11 @@
 use crate::calls::{any_gap, first_fault, shown, step_list, ByDefinition, Call, CHECKS};
 use crate::causes::{NEIGHBOURHOODS, ORDER, WORDS_A_PIXEL};
 use crate::damage;
+use crate::dark;
 use crate::definition::{Levels, Picture};
 use crate::every;
 use crate::fast::Forest;
-use crate::interface::{self, Numbers};
+use crate::interface::{self, MapCall, Mapping, Numbers};
 use crate::large;
 use crate::lent::Lent;
 use crate::nest::{Nest, Rectangle};
@@ -173,7 +174,7 @@ impl Before {
                 record_of(random, &noise, call.numbers)
             }
             Before::Reversed => {
-                let reversed: Vec<u8> = call.picture.iter().map(|grey| 255 - grey).collect();
+                let reversed = dark::reversed(&call.picture);
                 record_of(random, &reversed, call.numbers)
             }
             Before::Other => {
@@ -202,32 +203,32 @@ fn lent(random: &mut Random, call: &Call, turn: usize) -> (Before, Lent<u32>) {
     (before, Lent::holding(random, &words))
 }
 
-/// A call in this workspace, with outputs that are not judged here: its answer.
-type Made = fn(&mut Random, &Call, &mut [u32]) -> u64;
-
-fn open(random: &mut Random, call: &Call, workspace: &mut [u32]) -> u64 {
-    let mut output = Lent::dirty(random, call.outputs[0]);
-    let (threshold, output) = (call.steps[0], output.now_mut());
-    interface::open(&call.picture, call.numbers, threshold, workspace, output)
-}
-
-fn map(random: &mut Random, call: &Call, workspace: &mut [u32]) -> u64 {
+/// A map call or, if none is named, an opening in this workspace, with outputs that are not judged
+/// here: its answer.
+fn made(random: &mut Random, map: Option<MapCall>, call: &Call, workspace: &mut [u32]) -> u64 {
     let mut residue = Lent::dirty(random, call.outputs[0]);
     let mut index = Lent::dirty(random, call.outputs[1]);
-    let (residue, index) = (residue.now_mut(), index.now_mut());
-    interface::map(
-        &call.picture,
-        call.numbers,
-        &call.steps,
-        call.gap,
+    let mut contrast = Lent::dirty(random, call.outputs[2]);
+    let (picture, numbers, residue) = (&call.picture, call.numbers, residue.now_mut());
+    let Some(which) = map else {
+        return interface::open(picture, numbers, call.steps[0], workspace, residue);
+    };
+    let mapping = Mapping {
+        picture,
+        numbers,
+        steps: &call.steps,
+        gap: call.gap,
         workspace,
         residue,
-        index,
-    )
+        index: index.now_mut(),
+        contrast: contrast.now_mut(),
+    };
+    interface::map(which, mapping)
 }
 
 /// What building leaves is as the request has it, and opening and maps leave the very same words,
-/// maps at any gap. Each workspace holds something else before. Hands back what building left.
+/// maps at any gap; so does the dark or the combined call on 255 less each grey. Each workspace
+/// holds something else before. Hands back what building left.
 fn check(report: &mut Report, random: &mut Random, call: &Call, turn: usize) -> Vec<u32> {
     let case = |name: &str, before: Before| format!("list after {before:?}, {}", shown(name, call));
     let (before, mut built) = lent(random, call, turn);
@@ -237,15 +238,20 @@ fn check(report: &mut Report, random: &mut Random, call: &Call, turn: usize) -> 
         built.fault("workspace", Some(built.now())),
     ]);
     report.check(fault, || case("build", before));
-    let further: [(&str, Made); 2] = [("open", open), ("map", map)];
-    for (turn, (name, made)) in (turn + 1..).zip(further) {
+    let dark = random.pick(&[MapCall::Dark, MapCall::Combined]);
+    let further = [
+        (None, call),
+        (Some(MapCall::Light), call),
+        (Some(dark), &call.reversed()),
+    ];
+    for (turn, (map, call)) in (turn + 1..).zip(further) {
         let (before, mut workspace) = lent(random, call, turn);
-        let answer = made(random, call, workspace.now_mut());
+        let answer = made(random, map, call, workspace.now_mut());
         let fault = first_fault([
             answer_fault(answer, 0),
             workspace.fault("workspace", Some(built.now())),
         ]);
-        report.check(fault, || case(name, before));
+        report.check(fault, || case(map.map_or("open", MapCall::name), before));
     }
     built.now().to_vec()
 }
@@ -596,8 +602,7 @@ fn check_large(report: &mut Report, random: &mut Random) {
 /// Workspaces that are not 7n words, each alone, which is beside 5, and beside each other cause.
 fn check_wrong(report: &mut Report, random: &mut Random, picture: &Picture) {
     let neighbours = random.pick(&NEIGHBOURHOODS);
-    let levels = &Levels::of(picture, neighbours);
-    let truth = ByDefinition { picture, levels };
+    let truth = ByDefinition::of(picture, neighbours);
     for workspace in damage::all_wrong_workspaces(picture.pixels()) {
         for beside in ORDER {
             for check in CHECKS {

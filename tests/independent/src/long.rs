@@ -1,14 +1,13 @@
 // Runs that are too long by 2^32 entries and such. A call that looked at the low 32 bits of a
 // length, or of its bytes, would find it right.
 
-use crate::calls::{any_gap, first_fault, shown, step_list, Call};
-use crate::causes::{refusal, Named, NEIGHBOURHOODS, ORDER};
+use crate::calls::{any_good, first_fault, shown, Call};
+use crate::causes::{refusal, view_refusal, Named, ORDER};
 use crate::damage;
 use crate::files::{damage_read, damage_write, good_file, good_writing, sets, Writing};
-use crate::interface;
+use crate::interface::{self, MapCall, Mapping, View, MAP_CALLS};
 use crate::lent::Lent;
 use crate::pgm;
-use crate::pictures;
 use crate::random::Random;
 use crate::report::{self, answer_fault, refused, Report};
 use crate::vast::Vast;
@@ -29,6 +28,14 @@ fn choices<const RUNS: usize>() -> Vec<[usize; RUNS]> {
             }));
         }
     }
+    choices
+}
+
+/// Those of one run and those of all.
+fn few_choices<const RUNS: usize>() -> Vec<[usize; RUNS]> {
+    let long = |surplus: &[usize; RUNS]| surplus.iter().filter(|more| **more > 0).count();
+    let mut choices = choices();
+    choices.retain(|surplus| [1, RUNS].contains(&long(surplus)));
     choices
 }
 
@@ -86,37 +93,61 @@ fn check_open(report: &mut Report, random: &mut Random, call: &Call, surplus: [u
     });
 }
 
-fn check_map(report: &mut Report, random: &mut Random, call: &Call, surplus: [usize; 5]) {
+fn name(which: MapCall) -> &'static str {
+    match which {
+        MapCall::Light => "long map",
+        MapCall::Dark => "long dark map",
+        MapCall::Combined => "long combined map",
+    }
+}
+
+/// The runs are the picture, the steps, the workspace, and the outputs of this map call.
+fn check_map<const RUNS: usize>(
+    report: &mut Report,
+    random: &mut Random,
+    which: MapCall,
+    call: &Call,
+    surplus: [usize; RUNS],
+) {
+    let outputs = &surplus[3..];
+    let contrasts = outputs
+        .get(2)
+        .map_or((0, 0), |more| (call.outputs[2], *more));
     let picture = Vast::holding(random, &call.picture, surplus[0]);
     let steps = Vast::holding(random, &call.steps, surplus[1]);
     let mut workspace = Vast::dirty(random, call.workspace, surplus[2]);
-    let mut residue = Vast::dirty(random, call.outputs[0], surplus[3]);
-    let mut index = Vast::dirty(random, call.outputs[1], surplus[4]);
-    let answer = interface::map(
-        picture.now(),
-        call.numbers,
-        steps.now(),
-        call.gap,
-        workspace.now_mut(),
-        residue.now_mut(),
-        index.now_mut(),
-    );
+    let mut residue = Vast::dirty(random, call.outputs[0], outputs[0]);
+    let mut index = Vast::dirty(random, call.outputs[1], outputs[1]);
+    let mut contrast = Vast::dirty(random, contrasts.0, contrasts.1);
+    let mapping = Mapping {
+        picture: picture.now(),
+        numbers: call.numbers,
+        steps: steps.now(),
+        gap: call.gap,
+        workspace: workspace.now_mut(),
+        residue: residue.now_mut(),
+        index: index.now_mut(),
+        contrast: contrast.now_mut(),
+    };
+    let answer = interface::map(which, mapping);
+    let lengths = [residue.now().len(), index.now().len(), contrast.now().len()];
     let named = Named {
         picture: picture.now().len(),
         workspace: workspace.now().len(),
-        outputs: &[residue.now().len(), index.now().len()],
-        ..call.named_map(steps.now())
+        outputs: &lengths[..which.outputs()],
+        ..call.named_map(which, steps.now())
     };
     let fault = first_fault([
-        answer_fault(answer, due(report, "long map", &named)),
+        answer_fault(answer, due(report, name(which), &named)),
         picture.fault("picture", &[]),
         steps.fault("steps", &[]),
         workspace.fault("workspace", &[]),
         residue.fault("residue", &[]),
         index.fault("index", &[]),
+        contrast.fault("contrast", &[]),
     ]);
     report.check(fault, || {
-        format!("surplus {surplus:?}, {}", shown("map", call))
+        format!("surplus {surplus:?}, {}", shown(which.name(), call))
     });
 }
 
@@ -128,19 +159,42 @@ fn on_pictures<const RUNS: usize>(
     random: &mut Random,
     check: Check<RUNS>,
     causes: &[u32],
+    choices: Vec<[usize; RUNS]>,
 ) {
-    for surplus in choices() {
+    for surplus in choices {
         for (case, causes) in sets(causes).into_iter().enumerate() {
-            let picture = pictures::small(random, case);
-            let attribute = random.between(1, 3) as u32;
-            let neighbours = random.pick(&NEIGHBOURHOODS);
-            let steps = step_list(random, &[1, 2, 3, 5, 8, 13, 40]);
-            let mut call = Call::good(&picture, attribute, neighbours, steps);
-            call.gap = any_gap(random);
+            let (_, mut call) = any_good(random, case);
             for cause in causes {
                 damage::apply(random, &mut call, cause);
             }
             check(report, random, &call, surplus);
+        }
+    }
+}
+
+/// Maps too long for a viewer, with good numbers, a wrong side or row, and wrong sides.
+fn on_viewers(report: &mut Report, random: &mut Random) {
+    for surplus in choices::<2>() {
+        for turn in 0..24 {
+            let (width, height) = (random.between(1, 40) as u32, random.between(1, 40) as u32);
+            let lent = (width * height) as usize;
+            let maps = surplus.map(|more| Vast::dirty(random, lent, more));
+            let view = View {
+                width: [width, 0, 4097][turn % 3],
+                height,
+                row: [height - 1, height][turn / 3 % 2],
+                side: [1, 2, 0, 3][turn / 6],
+            };
+            let answer = interface::view_row(maps[0].now(), maps[1].now(), view);
+            let lengths = [0, 1].map(|side| maps[side].now().len());
+            let cause = view_refusal(view, lengths).expect_err("a map is too long");
+            report.met("long view", u64::from(cause));
+            let fault = first_fault([
+                answer_fault(answer, refused(cause)),
+                maps[0].fault("light map", &[]),
+                maps[1].fault("dark map", &[]),
+            ]);
+            report.check(fault, || format!("surplus {surplus:?}, {view:?}"));
         }
     }
 }
@@ -221,15 +275,27 @@ fn on_buffers(report: &mut Report, random: &mut Random) {
 pub fn run(report: &mut Report, seed: u64) {
     let mut random = Random::for_case(seed, 8, 0);
     let without_gap: Vec<u32> = ORDER.into_iter().filter(|cause| *cause != 19).collect();
-    on_pictures(report, &mut random, check_build, &without_gap);
-    on_pictures(report, &mut random, check_open, &without_gap);
-    on_pictures(report, &mut random, check_map, &ORDER);
+    on_pictures(report, &mut random, check_build, &without_gap, choices());
+    on_pictures(report, &mut random, check_open, &without_gap, choices());
+    let light: Check<5> =
+        |report, random, call, more| check_map(report, random, MapCall::Light, call, more);
+    let dark: Check<5> =
+        |report, random, call, more| check_map(report, random, MapCall::Dark, call, more);
+    let combined: Check<6> =
+        |report, random, call, more| check_map(report, random, MapCall::Combined, call, more);
+    on_pictures(report, &mut random, light, &ORDER, choices());
+    on_pictures(report, &mut random, dark, &ORDER, few_choices());
+    on_pictures(report, &mut random, combined, &ORDER, few_choices());
+    on_viewers(report, &mut random);
     on_files(report, &mut random);
     on_long_comment(report, &mut random);
     on_buffers(report, &mut random);
     report.check_all_met("long build", &[1, 2, 3, 17, 5]);
     report.check_all_met("long open", &[1, 2, 3, 17, 4, 5, 6]);
-    report.check_all_met("long map", &[1, 2, 3, 17, 4, 19, 5, 6]);
+    for which in MAP_CALLS {
+        report.check_all_met(name(which), &[1, 2, 3, 17, 4, 19, 5, 6]);
+    }
+    report.check_all_met("long view", &[1, 6]);
     report.check_all_met("long read", &[0, 8, 9, 10, 1, 11]);
     report.check_all_met("long write", &[0, 1, 2, 10, 12]);
 }

@@ -11,6 +11,7 @@ mod calls;
 mod causes;
 mod chains;
 mod damage;
+mod dark;
 mod definition;
 mod every;
 mod fast;
@@ -30,6 +31,7 @@ mod program;
 mod random;
 mod report;
 mod runs;
+mod sides;
 mod steps;
 mod table;
 mod vast;
@@ -44,12 +46,13 @@ const FEWEST_CASES: usize = 1000;
 
 type Suite = fn(&mut Report, &Options);
 
-const SUITES: [(&str, Suite); 12] = [
+const SUITES: [(&str, Suite); 13] = [
     ("table", |r, o| table::run(r, o.seed)),
     ("neighbours", |r, o| neighbours::run(r, o.seed)),
     ("frame", |r, o| frame::run(r, o.seed, o.cases / 10)),
     ("listing", |r, o| listing::run(r, o.seed, o.cases / 10)),
     ("gaps", |r, o| gaps::run(r, o.seed, o.cases / 10)),
+    ("sides", |r, o| sides::run(r, o.seed, o.cases / 10)),
     ("every", |r, o| every::run(r, o.seed)),
     ("calls", |r, o| calls::run(r, o.seed, o.cases)),
     ("chains", |r, o| chains::run(r, o.seed, o.cases / 4)),

@@ -2,10 +2,10 @@
 // any two of a picture. Then pictures worked out by hand that tell 8 neighbours from 4, and calls
 // that name neither.
 
-use crate::calls::{check_build, check_map, check_open, ByDefinition, Call, CHECKS};
+use crate::calls::{check_build, check_maps, check_open, ByDefinition, Call, Truth, CHECKS};
 use crate::causes::{NEIGHBOURHOODS, ORDER};
 use crate::damage;
-use crate::definition::{Levels, Picture};
+use crate::definition::Picture;
 use crate::random::Random;
 use crate::report::Report;
 use crate::table::{rows, Table, AREA, HEIGHT, WIDTH};
@@ -110,13 +110,9 @@ impl Pair {
 
     fn check(&self, report: &mut Report, random: &mut Random, number: u32) {
         let picture = &self.picture;
-        let levels = Levels::of(picture, number);
-        let truth = ByDefinition {
-            picture,
-            levels: &levels,
-        };
+        let truth = ByDefinition::of(picture, number);
         for attribute in 1..=3 {
-            let same = levels.opening(attribute, 2) == self.opened_at_2(attribute, number);
+            let same = truth.opening(attribute, 2) == self.opened_at_2(attribute, number);
             let fault = (!same).then(|| String::from("not opened as two pixels are"));
             report.check(fault, || {
                 format!("definition here: {picture:?} attribute {attribute}, {number} neighbours")
@@ -124,7 +120,7 @@ impl Pair {
             let call = Call::good(picture, attribute, number, vec![2]);
             check_build(report, random, &call, &truth);
             check_open(report, random, &call, &truth);
-            check_map(report, random, &call, &truth);
+            check_maps(report, random, &call, &truth);
         }
     }
 }
@@ -217,11 +213,7 @@ fn same_with_both(table: &mut Table) {
 /// Numbers that are neither 4 nor 8, each alone, which is beside 17, and beside each other cause.
 fn check_wrong(report: &mut Report, random: &mut Random) {
     let picture = rows(&[[9, 0, 3], [0, 9, 9]]);
-    let levels = Levels::of(&picture, NEIGHBOURHOODS[0]);
-    let truth = ByDefinition {
-        picture: &picture,
-        levels: &levels,
-    };
+    let truth = ByDefinition::of(&picture, NEIGHBOURHOODS[0]);
     let small = (0..=300).filter(|number| !NEIGHBOURHOODS.contains(number));
     for number in small.chain(damage::all_wrong_neighbours()) {
         for beside in ORDER {

@@ -1,11 +1,13 @@
 // Pictures of bright rectangles within each other. Their trees, openings and maps are known from
-// the places of the rectangles alone.
+// the places of the rectangles alone; what is dark in them is the second program's.
 
 use crate::calls::Truth;
-use crate::causes::MOST_THRESHOLD;
+use crate::causes::{MOST_THRESHOLD, NEIGHBOURHOODS};
 use crate::definition::{joined_falls, Picture, Record, CUT};
+use crate::fast::Forest;
 use crate::pictures::by_place;
 use crate::runs::Maps;
+use std::cell::OnceCell;
 
 /// First and last row, first and last column.
 #[derive(Clone, Copy, PartialEq)]
@@ -71,6 +73,9 @@ pub struct Nest {
     depth: Vec<u8>,
     /// Of each rectangle.
     pub attributes: Vec<[u32; 3]>,
+    /// Of 255 less each grey. What is left beside a rectangle never meets by a corner alone, so that
+    /// both neighbourhoods find the same.
+    reversed: OnceCell<Forest>,
 }
 
 /// Ground, floc, peak.
@@ -93,6 +98,7 @@ impl Nest {
             picture,
             depth,
             attributes: rectangles.iter().map(|r| r.attributes(whole)).collect(),
+            reversed: OnceCell::new(),
         }
     }
 
@@ -136,5 +142,9 @@ impl Truth for Nest {
         let mut openings = vec![self.picture.greys.clone()];
         openings.extend(steps.iter().map(|t| self.opening(attribute, *t)));
         joined_falls(&openings, gaps)
+    }
+    fn reversed(&self) -> &dyn Truth {
+        let reversed = || Forest::of(&self.picture.reversed(), NEIGHBOURHOODS[0]);
+        self.reversed.get_or_init(reversed)
     }
 }

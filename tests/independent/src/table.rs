@@ -4,9 +4,9 @@
 // worked out again, with its list of nodes. With 8 neighbours named the two-row case has zero maps
 // and the others stay.
 
-use crate::calls::{check_build, check_map, check_open, ByDefinition, Call};
+use crate::calls::{check_build, check_gaps, check_maps, check_open, ByDefinition, Call, Truth};
 use crate::causes::MOST_THRESHOLD;
-use crate::definition::{Levels, Picture, Record, CUT};
+use crate::definition::{Picture, Record, CUT};
 use crate::fast::Forest;
 use crate::pictures::{in_ring, ring};
 use crate::random::Random;
@@ -34,51 +34,49 @@ pub struct Table<'a> {
 
 impl Table<'_> {
     pub fn tree(&mut self, picture: &Picture, attribute: u32, due: &Record) {
-        let levels = Levels::of(picture, self.neighbours);
+        let truth = ByDefinition::of(picture, self.neighbours);
         let forest = Forest::of(picture, self.neighbours);
-        let same = levels.record(attribute) == *due && forest.record(attribute) == *due;
+        let same = truth.record(attribute) == *due && forest.record(attribute) == *due;
         self.defined(same, "tree", picture);
-        let truth = ByDefinition {
-            picture,
-            levels: &levels,
-        };
         let call = Call::good(picture, attribute, self.neighbours, vec![1]);
         check_build(self.report, &mut self.random, &call, &truth);
     }
 
     pub fn maps(&mut self, picture: &Picture, named: (u32, &[u32]), residue: &[u8], index: &[u16]) {
-        let levels = Levels::of(picture, self.neighbours);
+        let truth = ByDefinition::of(picture, self.neighbours);
         let forest = Forest::of(picture, self.neighbours);
         let due = [(residue.to_vec(), index.to_vec())];
-        let same = levels.maps(picture, named.0, named.1, &[self.gap]) == due
+        let same = truth.maps(named.0, named.1, &[self.gap]) == due
             && forest.maps(named.0, named.1, &[self.gap]) == due;
         self.defined(same, "maps", picture);
-        let truth = ByDefinition {
-            picture,
-            levels: &levels,
-        };
         let call = Call {
             gap: self.gap,
             ..Call::good(picture, named.0, self.neighbours, named.1.to_vec())
         };
-        check_map(self.report, &mut self.random, &call, &truth);
+        check_maps(self.report, &mut self.random, &call, &truth);
+        for turn in [0, 2] {
+            check_gaps(
+                self.report,
+                &mut self.random,
+                &call,
+                &[self.gap],
+                &truth,
+                turn,
+            );
+        }
     }
 
     pub fn opening(&mut self, picture: &Picture, named: (u32, u32), opened: &[u8]) {
-        let levels = Levels::of(picture, self.neighbours);
+        let truth = ByDefinition::of(picture, self.neighbours);
         let forest = Forest::of(picture, self.neighbours);
-        let same = levels.opening(named.0, named.1) == opened
-            && forest.opening(named.0, named.1) == opened;
+        let same =
+            truth.opening(named.0, named.1) == opened && forest.opening(named.0, named.1) == opened;
         self.defined(same, "opening", picture);
-        let truth = ByDefinition {
-            picture,
-            levels: &levels,
-        };
         let call = Call::good(picture, named.0, self.neighbours, vec![named.1]);
         check_open(self.report, &mut self.random, &call, &truth);
     }
 
-    fn defined(&mut self, same: bool, what: &str, picture: &Picture) {
+    pub fn defined(&mut self, same: bool, what: &str, picture: &Picture) {
         let fault = (!same).then(|| format!("programs here: {what} not as worked out by hand"));
         let (neighbours, gap) = (self.neighbours, self.gap);
         self.report.check(fault, || {
@@ -137,21 +135,17 @@ impl Table<'_> {
 
     /// Thresholds and lists at the ends of their ranges.
     fn ends(&mut self, picture: &Picture) {
-        let levels = Levels::of(picture, self.neighbours);
-        let truth = ByDefinition {
-            picture,
-            levels: &levels,
-        };
+        let truth = ByDefinition::of(picture, self.neighbours);
         for t in [0, 1, MOST_THRESHOLD, MOST_THRESHOLD + 1] {
             let call = Call::good(picture, AREA, self.neighbours, vec![t]);
             check_open(self.report, &mut self.random, &call, &truth);
-            check_map(self.report, &mut self.random, &call, &truth);
+            check_maps(self.report, &mut self.random, &call, &truth);
         }
         for count in [0, 1, 255, 256, 257] {
             for end in [count, MOST_THRESHOLD] {
                 let steps = (end - count + 1..=end).collect();
                 let call = Call::good(picture, AREA, self.neighbours, steps);
-                check_map(self.report, &mut self.random, &call, &truth);
+                check_maps(self.report, &mut self.random, &call, &truth);
             }
         }
     }

@@ -19,7 +19,7 @@ element-copy-out-result c = search needs
 
 returns-2 : tie.Need-returns-2
 unfolding place-of
-returns-2 c = simp (ne-eqb _ _ (c .before .before .if1 .left)) (table-read (λ a. places-before a _) (c .before .before .before .before .pre .1) _ (c .before .if2 .taken))
+returns-2 c = simp (ne-eqb _ _ (c .before .before .if1 .left)) (table-read 0 (λ a. places-before a _) (c .before .before .before .before .pre .1) _ (c .before .if2 .taken))
 
 outlasted-by-requires : tie.Need-outlasted-by-requires
 outlasted-by-requires c κs = search needs

@@ -43,11 +43,11 @@ loop-again c =
     let at = c .before .before .loop in (
       search needs,
       simp length-set (at .inv .1),
-      stored-more (at .table) (λ k. places-before k _) (at .a) _ (omega (arith, at .inv .1)) (at .inv .2) (c .outlasted-by .ensures),
+      stored-more 0 (at .table) (λ k. places-before k _) (at .a) _ (omega (arith, at .inv .1)) (at .inv .2) (c .outlasted-by .ensures),
     )
 
 returns : tie.Need-returns Inv-loop μ-loop
-returns c = as-table (λ a. places-before a _) (c .before .loop .inv .1) (λ a l. c .before .loop .inv .2 a (omega arith))
+returns c = as-table 0 (λ a. places-before a _) (c .before .loop .inv .1) (λ a l. c .before .loop .inv .2 a (omega arith))
 
 pub small-places-spec : {M : Type 1} → statement M
 small-places-spec =
