@@ -82,9 +82,15 @@ def index_bytes(index):
     return b"".join(i.to_bytes(2, "big") for i in index)
 
 
+def colour(contrast):
+    """Orange where it is light, blue where it is dark, and twice as bright as the residue, which 255 bounds."""
+    bright = min(2 * abs(contrast), 255)
+    return bytes((bright, bright // 2, 0) if contrast > 0 else (0, bright // 2, bright))
+
+
 def contrast_bytes(contrast):
-    """A contrast as the hosts write it: orange where it is light, blue where it is dark."""
-    return b"".join(bytes((c, c // 2, 0) if c > 0 else (0, -c // 2, -c)) for c in contrast)
+    """A contrast as the hosts write it."""
+    return b"".join(colour(c) for c in contrast)
 
 
 def random_call(random):
@@ -424,8 +430,8 @@ class Hosts(unittest.TestCase):
             middle = found[len(head) + 3 * 1530:]
             for c in range(1, 256):
                 at = 18 * (c - 1)
-                self.assertEqual(middle[at + 3:at + 6], bytes((c, c // 2, 0)))
-                self.assertEqual(middle[at + 12:at + 15], bytes((0, c // 2, c)))
+                self.assertEqual(middle[at + 3:at + 6], colour(c))
+                self.assertEqual(middle[at + 12:at + 15], colour(-c))
 
     def test_corners_join_with_8_neighbours(self):
         picture = self.file("corners.pgm", CORNERS_FILE)

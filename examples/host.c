@@ -5,8 +5,8 @@
  *
  * The maps are of light floc, with --dark of dark floc, with --combined of both. The residue map has a byte a sample, the index map
  * two, the high one first, and the maximum 256, so that every index is kept. The contrast is a picture for people, a PPM file: light
- * floc in orange, dark floc in blue, the brighter the larger its residue, and black where there is none. The exit status is 0 if all
- * files are written, 1 if the library refuses or a file cannot be read or written, 2 if the words are wrong.
+ * floc in orange, dark floc in blue, the brighter the larger its residue, up to 128, and black where there is none. The exit status is 0
+ * if all files are written, 1 if the library refuses or a file cannot be read or written, 2 if the words are wrong.
  */
 #include "teldruf.h"
 
@@ -117,12 +117,15 @@ static void write_index(const char *name, const picture_t *picture, const uint16
     free(file);
 }
 
+/* A residue as a brightness: residues are mostly small, so it doubles them. */
+static int brightness(int residue) { return residue < 128 ? 2 * residue : 255; }
+
 /* For each pixel red, green and blue. */
 static void write_contrast(const char *name, const picture_t *picture, const int16_t *contrast) {
     uint8_t *file = lend(64 + 3 * picture->n, 1);
     size_t length = (size_t)sprintf((char *)file, "P6\n%u %u\n255\n", (unsigned)picture->width, (unsigned)picture->height);
     for (size_t p = 0; p < picture->n; p++) {
-        int light = contrast[p] > 0 ? contrast[p] : 0, dark = contrast[p] < 0 ? -contrast[p] : 0;
+        int light = brightness(contrast[p] > 0 ? contrast[p] : 0), dark = brightness(contrast[p] < 0 ? -contrast[p] : 0);
         file[length++] = (uint8_t)light;
         file[length++] = (uint8_t)((light + dark) / 2);
         file[length++] = (uint8_t)dark;

@@ -63,9 +63,10 @@ def index_file(picture, index):
 
 
 def contrast_file(picture, contrast):
-    """For each pixel red, green and blue: light floc in orange, dark floc in blue."""
+    """For each pixel red, green and blue: light floc in orange, dark floc in blue, twice as bright as its residue."""
     head = f"P6\n{picture.width} {picture.height}\n255\n".encode()
-    colours = {c: bytes((max(c, 0), abs(c) // 2, max(-c, 0))) for c in range(-255, 256)}
+    bright = [min(2 * residue, 255) for residue in range(256)]
+    colours = {c: bytes((bright[max(c, 0)], bright[abs(c)] // 2, bright[max(-c, 0)])) for c in range(-255, 256)}
     return head + b"".join([colours[c] for c in contrast])
 
 

@@ -69,7 +69,8 @@ pub fn dark_map(
     residue: &mut [u8],
     index: &mut [u16],
 ) -> calls::Verdict
-    ensures answer { λ r. ⌜ verdict-numbers r ≡ verdict-numbers (map-verdict (reversed-call (map-call picture grid attribute steps gap workspace residue index))) ⌝ }
+    ensures answer { λ r. ⌜ verdict-numbers r ≡
+        verdict-numbers (map-verdict (reversed-call (map-call picture grid attribute steps gap workspace residue index))) ⌝ }
     ensures workspace { λ _. ⌜ now (workspace .exit) ≡ map-workspace (reversed-call (map-call picture grid attribute steps gap workspace residue index)) ⌝ }
     ensures residue { λ _. ⌜ now (residue .exit) ≡ map-residue (reversed-call (map-call picture grid attribute steps gap workspace residue index)) ⌝ }
     ensures index { λ _. ⌜ now (index .exit) ≡ map-index (reversed-call (map-call picture grid attribute steps gap workspace residue index)) ⌝ }

@@ -1,1 +1,2 @@
 pub mod Viewing
+pub mod Answers
