@@ -1,6 +1,6 @@
 -- The combined call: what holds of one that is accepted, and the contrast beside the residue. Assumes nothing.
-use Prim.Native.Nat.{ℕ, zero, suc, _≤_, _<_, max}
-use mathlib.Core.Bool.{true, cond}
+use Prim.Native.Nat.{ℕ, zero, suc, _≤_, _<_}
+use mathlib.Core.Bool.{cond}
 use mathlib.Core.List.{List}
 use mathlib.Core.Logic.{⊎-elim}
 use mathlib.Core.Path.{_≡_, refl}
@@ -11,10 +11,8 @@ use lib.ListN.{length}
 use borrow.Author.Tests.{eqb-true, lt-ltb, le-ltb}
 use Rattle.sets.proofs.Tests.{le-or-lt}
 use Rattle.grid.specs.Pixels.{pixels}
-use Rattle.calls.specs.Judging.{also, Test}
 use Rattle.calls.specs.Calls.{Map-call, map-verdict}
 use Rattle.calls.specs.Combined.{larger-residue, contrast-of, combined-verdict}
-use Rattle.calls.specs.declared.Verdict.{Verdict}
 use Rattle.calls.specs.declared.Verdict.the-variants.{Accepted}
 use Rattle.calls.proofs.Accepted.{also-accepted}
 

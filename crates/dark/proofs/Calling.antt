@@ -9,12 +9,12 @@ use Rattle.sets.specs.Sets.{table}
 use Rattle.grid.specs.Pixels.{pixels}
 use Rattle.causes.specs.declared.Cause.{Cause}
 use Rattle.calls.specs.Judging.{verdict-numbers}
-use Rattle.calls.specs.Calls.{Map-call, mapping-of, map-verdict}
+use Rattle.calls.specs.Calls.{Map-call, map-verdict}
 use Rattle.calls.specs.Reversed.{reversed, reversed-call}
-use Rattle.calls.specs.Combined.{contrast-of, combined-residues, combined-indices, combined-contrasts, combined-verdict, combined-workspace, combined-residue, combined-index, combined-contrast}
+use Rattle.calls.specs.Combined.{contrast-of, combined-verdict, combined-workspace, combined-residue, combined-index, combined-contrast}
 use Rattle.calls.specs.declared.Verdict.{Verdict}
 use Rattle.calls.specs.declared.Verdict.the-variants.{Accepted, Refused}
-use Rattle.calls.proofs.Accepted.{Map-passed, map-passed}
+use Rattle.calls.proofs.Accepted.{map-passed}
 use Rattle.calls.proofs.Reversed.{length-reversed, reversed-verdict}
 use Rattle.calls.proofs.Combined.{combined-passed}
 use Rattle.max_tree.specs.Building.{Recorded}

@@ -12,23 +12,14 @@ use Rattle.sets.proofs.Laws.{table-at, table-ext}
 use Rattle.sets.proofs.Tables.{table-long}
 use Rattle.sets.proofs.Tests.{decided}
 use Rattle.grid.specs.Pixels.{pixels}
-use Rattle.grid.specs.declared.Grid.{Grid}
-use Rattle.causes.specs.declared.Cause.{Cause}
-use Rattle.calls.specs.Judging.{verdict-numbers}
-use Rattle.calls.specs.Calls.{residue-map, index-map, Map-call, mapping-of, map-verdict, map-workspace, map-residue, map-index}
-use Rattle.calls.specs.Reversed.{reversed, reversed-call}
-use Rattle.calls.specs.Combined.{larger-residue, winning-index, contrast-of, light-residue, light-index, dark-residue, dark-index, combined-residues, combined-indices, combined-contrasts, combined-verdict, combined-workspace, combined-residue, combined-index, combined-contrast}
-use Rattle.calls.specs.declared.Verdict.{Verdict}
-use Rattle.calls.specs.declared.Verdict.the-variants.{Accepted, Refused}
-use Rattle.calls.proofs.Accepted.{Map-passed, map-passed}
-use Rattle.calls.proofs.Reversed.{length-reversed, reversed-verdict}
-use Rattle.calls.proofs.Combined.{combined-passed, chosen-larger}
-use Rattle.max_tree.specs.Building.{Recorded}
+use Rattle.calls.specs.Calls.{residue-map, index-map, Map-call}
+use Rattle.calls.specs.Reversed.{reversed}
+use Rattle.calls.specs.Combined.{larger-residue, winning-index, contrast-of, light-residue, light-index, dark-residue, dark-index, combined-residues, combined-indices, combined-contrasts}
+use Rattle.calls.proofs.Combined.{chosen-larger}
 use Rattle.map_passes.specs.Settle.{total-in, index-in}
 use Rattle.map_passes.specs.Passes.{pair-for}
 use Rattle.map_passes.proofs.Settling.{read-chosen}
-use Rattle.residues.specs.Sizing.{Sizeable, Node-pairs, Pixel-pairs}
-use Rattle.residues.proofs.Mapping.{Called}
+use Rattle.residues.specs.Sizing.{Node-pairs, Pixel-pairs}
 use Rattle.dark.specs.Merging.{merged}
 
 -- a merged pair has 16 bits

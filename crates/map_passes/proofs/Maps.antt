@@ -75,8 +75,10 @@ module _ (grid : Grid) (a : ℕ) (picture : List ℕ) (wide : 1 ≤ grid .width)
       (settled-all prog (nodes-climbable N bytes))
       q
       b in
+      let residue : ℕ → ℕ = residue-by (pixels grid) (adjacent grid) (threshold-tests attr steps) gap (grey picture) in
+      let index : ℕ → ℕ = index-by (pixels grid) (adjacent grid) (threshold-tests attr steps) gap (grey picture) in
       rw
-      (kept-number (prog .kept) q b, table-at (pixels grid) (λ (p : ℕ). residue-by (pixels grid) (adjacent grid) (threshold-tests attr steps) gap (grey picture) p) q 0 inside, table-at (pixels grid) (λ (p : ℕ). index-by (pixels grid) (adjacent grid) (threshold-tests attr steps) gap (grey picture) p) q 0 inside, ← size)
+      (kept-number (prog .kept) q b, table-at (pixels grid) residue q 0 inside, table-at (pixels grid) index q 0 inside, ← size)
       right
 
 -- what the pass over the nodes leaves

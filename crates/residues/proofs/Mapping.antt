@@ -6,7 +6,7 @@ use mathlib.Core.Path.{_≡_, refl, sym, ap, _∙_}
 use native.Mathlib.Omega.{arith}
 use lib.ListN.{length, getD}
 use Rattle.sets.specs.Sets.{table}
-use Rattle.sets.proofs.Laws.{length-table, table-at, table-ext}
+use Rattle.sets.proofs.Laws.{table-at, table-ext}
 use Rattle.sets.proofs.Tables.{table-long}
 use Rattle.grid.specs.Pixels.{pixels}
 use Rattle.grid.specs.declared.Grid.{Grid}
@@ -16,11 +16,11 @@ use Rattle.calls.specs.Judging.{verdict-numbers}
 use Rattle.calls.specs.Calls.{grey, residue-map, index-map, Map-call, map-verdict, map-workspace, map-residue, map-index}
 use Rattle.calls.specs.declared.Verdict.{Verdict}
 use Rattle.calls.specs.declared.Verdict.the-variants.{Accepted, Refused}
-use Rattle.calls.proofs.Accepted.{Passed, Map-passed, map-passed, bounded, Step-list, step-list, maps-accepted}
-use Rattle.max_tree.specs.Building.{Buildable, Noded, Recordable, Recorded}
+use Rattle.calls.proofs.Accepted.{Map-passed, map-passed, bounded, Step-list, step-list}
+use Rattle.max_tree.specs.Building.{Noded, Recordable, Recorded}
 use Rattle.max_tree.proofs.Assembly.{rebuildable}
 use Rattle.map_passes.specs.Settle.{total-in, index-in}
-use Rattle.map_passes.specs.Passes.{Given, pair-for, Right-pairs, Holdable, Paired}
+use Rattle.map_passes.specs.Passes.{Given, pair-for, Holdable, Paired}
 use Rattle.map_passes.proofs.Climbing.{nodes-climbable}
 use Rattle.map_passes.proofs.Keeping.{nodes-kept}
 use Rattle.residues.specs.Sizing.{Sizeable, Node-pairs, Pixel-pairs}

@@ -15,7 +15,7 @@ use Rattle.sets.proofs.Tests.{decided}
 use Rattle.causes.specs.Bounds.{most-pixels}
 use Rattle.causes.specs.Causes.{number-of}
 use Rattle.causes.specs.declared.Cause.{Cause}
-use Rattle.causes.proofs.Laws.{both-true, Bounded, bounded}
+use Rattle.causes.proofs.Laws.{both-true, bounded}
 use Rattle.calls.specs.declared.Verdict.{Verdict}
 use Rattle.calls.specs.declared.Verdict.the-variants.{Accepted, Refused}
 use Rattle.calls.proofs.Accepted.{All-hold, all-hold}

@@ -1,5 +1,5 @@
 -- `dark::combined_map` meets its contract. Assumes nothing.
-use mathlib.Core.Path.{_≡_, sym, refl, _∙_}
+use mathlib.Core.Path.{_≡_, sym, _∙_}
 use denote.Ref.{now}
 use lib.IntN.{ℤ}
 use mathlib.Core.List.{List}
@@ -105,7 +105,17 @@ returns-2 c =
     let at-size = at-reverse .before .before .before .before .before .before in
     let told = at-size .before .before .before in
     let at = told .before .before in
-    combined-done (call at) (lent at) (judged at) (told .enum-told .given .1) (at-reverse .reverse .ensures) (at-size .size .ensures .1) (at-settle .settle .ensures) (at-merge .merge .ensures) (at-write-whole .write-whole .ensures) (at-unpack .unpack .ensures)
+    combined-done
+    (call at)
+    (lent at)
+    (judged at)
+    (told .enum-told .given .1)
+    (at-reverse .reverse .ensures)
+    (at-size .size .ensures .1)
+    (at-settle .settle .ensures)
+    (at-merge .merge .ensures)
+    (at-write-whole .write-whole .ensures)
+    (at-unpack .unpack .ensures)
 
 pub combined-map-spec : {M : Type 1} → statement M
 combined-map-spec =

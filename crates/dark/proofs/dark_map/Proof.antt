@@ -67,7 +67,15 @@ returns-2 c =
     let at-reverse = at-size .before .before .before .before .before .before in
     let told = at-reverse .before .before in
     let at = told .before .before in
-    dark-done (call at) (at .judge-sizing .ensures) (told .enum-told .given .1) (at-reverse .reverse .ensures) (at-size .size .ensures .0) (at-size .size .ensures .1) (at-write-whole .write-whole .ensures) (at-unpack .unpack .ensures)
+    dark-done
+    (call at)
+    (at .judge-sizing .ensures)
+    (told .enum-told .given .1)
+    (at-reverse .reverse .ensures)
+    (at-size .size .ensures .0)
+    (at-size .size .ensures .1)
+    (at-write-whole .write-whole .ensures)
+    (at-unpack .unpack .ensures)
 
 pub dark-map-spec : {M : Type 1} → statement M
 dark-map-spec =

@@ -5,7 +5,7 @@ use mathlib.Core.Path.{ap, _∙_}
 use native.Mathlib.Nat.{le-refl}
 use native.Mathlib.Omega.{arith}
 use lib.IntN.{pos}
-use lib.ListN.{length, getD}
+use lib.ListN.{getD}
 use Rattle.sets.proofs.Tables.{Filled-to, Changed-to, filled-none, filled-more, filled-all, changed-none, changed-more}
 use Rattle.calls.specs.Combined.{contrast-of}
 use Rattle.map_passes.specs.Settle.{total-in}
@@ -18,19 +18,24 @@ use Rattle.dark.proofs.merge.Statement.{statement}
 use Rattle.dark.proofs.merge.Tie as tie
 
 abbrev Inv-loop : tie.InvT-loop
-Inv-loop n ws pairs₀ contrasts₀ p₀ pairs contrasts p = (p ≤ n) × Changed-to 0 n (λ (q : ℕ). merged (getD pairs₀ q 0) (pair-for n ws q)) pairs₀ pairs p × Filled-to (pos 0) n (λ (q : ℕ). contrast-of (total-in (getD pairs₀ q 0)) (total-in (pair-for n ws q))) contrasts p
+Inv-loop n ws pairs₀ contrasts₀ p₀ pairs contrasts p =
+    (p ≤ n)
+    × Changed-to 0 n (λ (q : ℕ). merged (getD pairs₀ q 0) (pair-for n ws q)) pairs₀ pairs p
+    × Filled-to (pos 0) n (λ (q : ℕ). contrast-of (total-in (getD pairs₀ q 0)) (total-in (pair-for n ws q))) contrasts p
 
 abbrev μ-loop : tie.MeasureT-loop
 μ-loop n ws pairs₀ contrasts₀ p₀ pairs contrasts p = n - p
 
+-- the number of a pixel's node has a word
 number : (c : tie.In-loop Inv-loop μ-loop) → getD (c .before .before .before .before .args .ws .now) (c .before .loop .p) 0 < c .before .before .before .before .args .n
-number c = (c .before .before .before .before) .pre .0 .within (c .before .loop .p) (c .loop-test .taken)
+number c = c .before .before .before .before .pre .0 .within (c .before .loop .p) (c .loop-test .taken)
 
+-- and its pair 16 bits
 sixteen : (c : tie.In-loop Inv-loop μ-loop) → pair-for (c .before .before .before .before .args .n) (c .before .before .before .before .args .ws .now) (c .before .loop .p) < 65536
-sixteen c = (c .before .before .before .before) .pre .0 .fits (c .before .loop .p) (c .loop-test .taken)
+sixteen c = c .before .before .before .before .pre .0 .fits (c .before .loop .p) (c .loop-test .taken)
 
 loop-holds : tie.Need-loop-holds Inv-loop μ-loop
-loop-holds c = (omega arith, changed-none ((c .before .before) .pre .0 .pairs-size), filled-none ((c .before .before) .pre .1))
+loop-holds c = (omega arith, changed-none (c .before .before .pre .0 .pairs-size), filled-none (c .before .before .pre .1))
 
 mul-light : tie.Need-mul-light Inv-loop μ-loop
 mul-light c = search needs
@@ -107,13 +112,24 @@ loop-again c =
     let inv = at-loop .loop .inv in
     let dark : ℕ = pair-for (start .args .n) (start .args .ws .now) (at-loop .loop .p) in
     let light = inv .1 .rest (at-loop .loop .p) (le-refl (at-loop .loop .p)) in
-    (omega (arith, at-loop-test .loop-test .taken), changed-more (inv .1) (at-loop-test .loop-test .taken) _ (c .before .better .ensures ∙ ap (λ (pair : ℕ). merged pair dark) light), filled-more (inv .2) (at-loop-test .loop-test .taken) _ (contrast-stored (getD (start .args .pairs .now) (at-loop .loop .p) 0) dark (c .contrast .ensures ∙ ap (λ (pair : ℕ). contrast-of (total-in pair) (total-in dark)) light)))
+    let inside = at-loop-test .loop-test .taken in (
+      omega (arith, inside),
+      changed-more (inv .1) inside _ (c .before .better .ensures ∙ ap (λ (pair : ℕ). merged pair dark) light),
+      filled-more
+          (inv .2)
+          inside
+          _
+          (contrast-stored
+          (getD (start .args .pairs .now) (at-loop .loop .p) 0)
+          dark
+          (c .contrast .ensures ∙ ap (λ (pair : ℕ). contrast-of (total-in pair) (total-in dark)) light)),
+    )
 
 same-length : tie.Need-same-length Inv-loop μ-loop
-same-length c = omega (arith, c .before .loop .inv .1 .filled .size, (c .before .before .before .before) .pre .0 .pairs-size)
+same-length c = omega (arith, c .before .loop .inv .1 .filled .size, c .before .before .before .before .pre .0 .pairs-size)
 
 same-length-2 : tie.Need-same-length-2 Inv-loop μ-loop
-same-length-2 c = omega (arith, c .before .loop .inv .2 .size, (c .before .before .before .before) .pre .1)
+same-length-2 c = omega (arith, c .before .loop .inv .2 .size, c .before .before .before .before .pre .1)
 
 returns : tie.Need-returns Inv-loop μ-loop
 returns c = (filled-all (c .before .loop .inv .1 .filled) (c .loop-test .left), filled-all (c .before .loop .inv .2) (c .loop-test .left))

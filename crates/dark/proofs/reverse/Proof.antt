@@ -1,5 +1,5 @@
 -- `dark::reverse` meets its contract. The loop's invariant: the bytes below p are reversed. The measure is how many pixels are left.
-use Prim.Native.Nat.{ℕ, _-_, _≤_, _<_}
+use Prim.Native.Nat.{ℕ, _-_, _≤_}
 use mathlib.Core.Path.{_≡_, refl}
 use native.Mathlib.Omega.{arith}
 use lib.ListN.{length}
@@ -40,7 +40,7 @@ loop-again c =
     (omega (arith, c .before .loop-test .taken), at-loop .loop .inv .1, filled-more (at-loop .loop .inv .2) (c .before .loop-test .taken) _ refl)
 
 same-length : tie.Need-same-length Inv-loop μ-loop
-same-length c = omega (arith, c .before .loop .inv .2 .size, c .before .loop .inv .1, (c .before .before) .pre)
+same-length c = omega (arith, c .before .loop .inv .2 .size, c .before .loop .inv .1, c .before .before .pre)
 
 returns : tie.Need-returns Inv-loop μ-loop
 unfolding reversed

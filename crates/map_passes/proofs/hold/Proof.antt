@@ -1,6 +1,6 @@
 -- `map_passes::hold` meets its contract. The loop's invariant: the entries below p are the pairs that the nodes hold. The measure is how many
 -- pixels are left.
-use Prim.Native.Nat.{ℕ, _-_, _≤_, _<_}
+use Prim.Native.Nat.{_-_, _≤_, _<_}
 use mathlib.Core.Path.{refl}
 use native.Mathlib.Omega.{arith}
 use lib.ListN.{getD}
@@ -16,9 +16,11 @@ Inv-loop n ws pairs₀ p₀ pairs p = (p ≤ n) × Filled-to 0 n (pair-for n ws)
 abbrev μ-loop : tie.MeasureT-loop
 μ-loop n ws pairs₀ p₀ pairs p = n - p
 
+-- the number of a pixel's node has a word
 number : (c : tie.In-loop Inv-loop μ-loop) → getD (c .before .before .args .ws .now) (c .before .loop .p) 0 < c .before .before .args .n
 number c = c .before .before .pre .within (c .before .loop .p) (c .loop-test .taken)
 
+-- and its pair 16 bits
 sixteen : (c : tie.In-loop Inv-loop μ-loop) → pair-for (c .before .before .args .n) (c .before .before .args .ws .now) (c .before .loop .p) < 65536
 sixteen c = c .before .before .pre .fits (c .before .loop .p) (c .loop-test .taken)
 

@@ -1,6 +1,6 @@
 -- `map_passes::unpack` meets its contract. The loop's invariant: the entries below p are those of the pairs that the index map held at entry,
 -- and from p on it holds them still. The measure is how many pixels are left.
-use Prim.Native.Nat.{ℕ, _-_, _≤_, _<_}
+use Prim.Native.Nat.{ℕ, _-_, _≤_}
 use mathlib.Core.Path.{_≡_, refl, ap}
 use native.Mathlib.Nat.{le-refl}
 use native.Mathlib.Omega.{arith}
@@ -62,10 +62,11 @@ loop-again c =
     let at-loop = c .before .before in
     let inv = at-loop .loop .inv in
     let pair = inv .3 .rest (at-loop .loop .p) (le-refl (at-loop .loop .p)) in
-    (omega (arith, c .before .loop-test .taken), inv .1, filled-more (inv .2) (c .before .loop-test .taken) _ (ap total-in pair), changed-more (inv .3) (c .before .loop-test .taken) _ (ap index-in pair))
+    let inside = c .before .loop-test .taken in
+    (omega (arith, inside), inv .1, filled-more (inv .2) inside _ (ap total-in pair), changed-more (inv .3) inside _ (ap index-in pair))
 
 same-length : tie.Need-same-length Inv-loop μ-loop
-same-length c = omega (arith, c .before .loop .inv .2 .size, c .before .loop .inv .1, (c .before .before) .pre)
+same-length c = omega (arith, c .before .loop .inv .2 .size, c .before .loop .inv .1, c .before .before .pre)
 
 same-length-2 : tie.Need-same-length-2 Inv-loop μ-loop
 same-length-2 c = omega (arith, c .before .loop .inv .3 .filled .size, c .before .loop .inv .1)

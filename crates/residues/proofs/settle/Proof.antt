@@ -5,7 +5,7 @@ use Rattle.residues.proofs.settle.Statement.{statement}
 use Rattle.residues.proofs.settle.Tie as tie
 
 build-nodes-requires : tie.Need-build-nodes-requires
-build-nodes-requires c κs = (c .before .before .before .before) .pre .buildable
+build-nodes-requires c κs = c .before .before .before .before .pre .buildable
 
 settle-pairs-requires : tie.Need-settle-pairs-requires
 settle-pairs-requires c κs =

@@ -5,7 +5,7 @@ use Rattle.residues.proofs.size.Statement.{statement}
 use Rattle.residues.proofs.size.Tie as tie
 
 settle-requires : tie.Need-settle-requires
-settle-requires c κs = (c .before .before .before .before .before) .pre .0
+settle-requires c κs = c .before .before .before .before .before .pre .0
 
 hold-requires : tie.Need-hold-requires
 hold-requires c κs =

@@ -8,13 +8,13 @@ slice-aggregate-number : tie.Need-slice-aggregate-number
 slice-aggregate-number c = search needs
 
 cast-number : tie.Need-cast-number
-cast-number c = widens (c .before .before .args .x) ((c .before .before) .fits .x)
+cast-number c = widens (c .before .before .args .x) (c .before .before .fits .x)
 
 sub-number : tie.Need-sub-number
-sub-number c = negates (c .before .before .args .x) ((c .before .before) .fits .x)
+sub-number c = negates (c .before .before .args .x) (c .before .before .fits .x)
 
 cast-number-2 : tie.Need-cast-number-2
-cast-number-2 c = negative-told (c .before .before .args .x) ((c .before .before) .fits .x) (c .before .if1 .taken)
+cast-number-2 c = negative-told (c .before .before .args .x) (c .before .before .fits .x) (c .before .if1 .taken)
 
 number-requires : tie.Need-number-requires
 number-requires c κs = search needs
@@ -26,7 +26,7 @@ slice-aggregate-number-2 : tie.Need-slice-aggregate-number-2
 slice-aggregate-number-2 c = search needs
 
 cast-number-3 : tie.Need-cast-number-3
-cast-number-3 c = other-told (c .before .before .args .x) ((c .before .before) .fits .x) (c .before .if1 .left)
+cast-number-3 c = other-told (c .before .before .args .x) (c .before .before .fits .x) (c .before .if1 .left)
 
 number-requires-2 : tie.Need-number-requires-2
 number-requires-2 c κs = search needs

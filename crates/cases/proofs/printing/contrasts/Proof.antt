@@ -2,7 +2,6 @@
 -- The invariant: no more contrasts are printed than there are. The measure: how many are left.
 use Prim.Native.Nat.{_≤_, _-_}
 use lib.ListN.{length}
-use native.Mathlib.Omega.{arith}
 use borrow.Author.Needs.{needs}
 use Rattle.cases.proofs.printing.contrasts.Statement.{statement}
 use Rattle.cases.proofs.printing.contrasts.Tie as tie
