@@ -1,15 +1,16 @@
 -- The combined call: both sides of a picture, light floc and dark. It names and is lent what a map call is, and a contrast map.
-use Prim.Native.Nat.{ℕ, max}
+use Prim.Native.Nat.{ℕ, _≤_, _<_, max}
 use mathlib.Core.Bool.{Bool, cond}
 use mathlib.Core.List.{List, [], _∷_, _++_}
+use mathlib.Core.Path.{_≡_}
 use lib.Dec.{ltb}
 use lib.IntN.{ℤ, pos, negℤ}
 use lib.ListN.{length, getD}
 use Rattle.sets.specs.Sets.{table}
 use Rattle.grid.specs.Pixels.{pixels}
 use Rattle.calls.specs.Judging.{Test, verdict-of, output-test}
-use Rattle.calls.specs.Calls.{residue-map, index-map, record-of, after, Map-call, map-tests}
-use Rattle.calls.specs.Reversed.{reversed}
+use Rattle.calls.specs.Calls.{residue-map, index-map, record-of, after, Map-call, map-tests, map-residue, map-index}
+use Rattle.calls.specs.Reversed.{reversed, reversed-call}
 use Rattle.calls.specs.declared.Verdict.{Verdict}
 
 -- light wins only if its residue is larger
@@ -79,3 +80,19 @@ combined-index call contrast = after (combined-verdict call contrast) (combined-
 
 unfoldable pub combined-contrast : Map-call → List ℤ → List ℤ
 combined-contrast call contrast = after (combined-verdict call contrast) (combined-contrasts call) contrast
+
+-- what an accepted combined call writes at the pixel p, beside what the map call and the dark call write there
+pub record At-combined (call : Map-call) (contrast : List ℤ) (p : ℕ) : Type 0 where
+  -- "the side of larger residue"
+  pub residue : getD (combined-residue call contrast) p 0 ≡ max (getD (map-residue call) p 0) (getD (map-residue (reversed-call call)) p 0)
+  -- "and its index", and "the residue where light won"
+  pub light : getD (map-residue (reversed-call call)) p 0 < getD (map-residue call) p 0
+      → (getD (combined-index call contrast) p 0 ≡ getD (map-index call) p 0)
+      × (getD (combined-contrast call contrast) p (pos 0) ≡ pos (getD (map-residue call) p 0))
+  -- "on equal residues the dark index", and "its negative where dark won or tied"
+  pub dark : getD (map-residue call) p 0 ≤ getD (map-residue (reversed-call call)) p 0
+      → (getD (combined-index call contrast) p 0 ≡ getD (map-index (reversed-call call)) p 0)
+      × (getD (combined-contrast call contrast) p (pos 0) ≡ negℤ (pos (getD (map-residue (reversed-call call)) p 0)))
+  -- "0 where both are 0"
+  pub none : getD (map-residue call) p 0 ≡ 0 → getD (map-residue (reversed-call call)) p 0 ≡ 0
+      → getD (combined-contrast call contrast) p (pos 0) ≡ pos 0
