@@ -9,7 +9,7 @@
  * the cause's number times 2^32, and all lent memory is as it was. The first cause in the order named with a call decides.
  *
  * The caller's duties: pointers are not null and are aligned for their type, also where a length is 0; lengths count entries and
- * stand for memory that is there; what is lent in one call does not overlap; nobody else writes it during the call.
+ * stand for memory that is there; what a call writes overlaps nothing else that it is lent; nobody else writes any of it during the call.
  */
 #ifndef TELDRUF_H
 #define TELDRUF_H

@@ -71,11 +71,11 @@ module _ (call : Map-call) (contrast : List ℤ) (ok : combined-verdict call con
         none = λ no-light no-dark. contrast-is ∙ rw (← l, ← d, no-light, no-dark) refl;
       }
 
--- but for its sign the contrast is the residue
 abs-negative : (k : ℕ) → natAbs (negℤ (pos k)) ≡ k
 abs-negative zero = refl
 abs-negative (suc k) = refl
 
+-- but for its sign the contrast is the residue
 pub contrast-residue : (light dark : ℕ) → natAbs (contrast-of light dark) ≡ larger-residue light dark
 contrast-residue light dark =
     ⊎-elim

@@ -141,7 +141,7 @@ pub fn judge_picture(grid: Grid, bytes: usize, attribute: u32) -> Verdict
     )
 }
 
-// The tests of a call that sizes a picture: those, its steps, its gap, its workspace's words and the entries of its two maps.
+// The tests of a call that sizes a picture: those of `judge_picture`, its steps, its gap, its workspace's words and the entries of its two maps.
 pub fn judge_sizing(
     grid: Grid,
     bytes: usize,

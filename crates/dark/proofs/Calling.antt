@@ -21,7 +21,7 @@ use Rattle.max_tree.specs.Building.{Recorded}
 use Rattle.map_passes.specs.Settle.{total-in, index-in}
 use Rattle.map_passes.specs.Passes.{pair-for, Holdable}
 use Rattle.residues.specs.Sizing.{Sizeable, Node-pairs, Pixel-pairs}
-use Rattle.residues.proofs.Mapping.{Called, called-refused, called-done, size-asks, hold-asks}
+use Rattle.residues.proofs.Mapping.{Called, called-refused, called-done, sizes, size-asks, hold-asks}
 use Rattle.dark.specs.Merging.{merged}
 use Rattle.dark.proofs.Merging.{merged-residues, merged-indices, merged-contrasts}
 
@@ -44,16 +44,7 @@ module _ (call : Map-call) (accepted : map-verdict call ≡ Accepted) where
       → Sizeable (call .grid) shown (call .steps) (call .gap) ws
   dark-asks is long =
       let passed = map-passed call accepted in
-      record {
-        buildable =
-            record {
-              sides = passed .common .sides;
-              bytes = rw is (length-reversed (call .picture)) ∙ passed .common .a-byte-each;
-              words = long ∙ passed .common .words-each;
-            };
-        step-list = passed .steps;
-        small-gap = passed .gap;
-      }
+      sizes passed (rw is (length-reversed (call .picture)) ∙ passed .common .a-byte-each) (long ∙ passed .common .words-each)
 
 -- the dark call
 module _ (call : Map-call) {verdict : Verdict} (judged : verdict ≡ map-verdict call) where
@@ -100,10 +91,10 @@ module _ (call : Map-call) (lent : List ℤ) {verdict : Verdict} (judged : verdi
 
   module _ (accepted : verdict ≡ Accepted) where
     pub sizing-accepted : map-verdict call ≡ Accepted
-    sizing-accepted = combined-passed call lent (sym judged ∙ accepted) .0
+    sizing-accepted = combined-passed call lent (accepted-by judged accepted) .0
 
     pub contrast-long : length lent ≡ pixels (call .grid)
-    contrast-long = combined-passed call lent (sym judged ∙ accepted) .1
+    contrast-long = combined-passed call lent (accepted-by judged accepted) .1
 
     module _ {shown light ws : List ℕ} (is : shown ≡ reversed (call .picture))
         (lights : Pixel-pairs (call .grid) (call .attribute) (call .picture) (call .steps) (call .gap) light)
@@ -120,7 +111,7 @@ module _ (call : Map-call) (lent : List ℤ) {verdict : Verdict} (judged : verdi
           → Combined-called call lent Accepted left residue index contrast
       unfolding combined-workspace combined-residue combined-index combined-contrast
       combined-done merging recorded maps =
-          let ok : combined-verdict call lent ≡ Accepted = sym judged ∙ accepted in
+          let ok : combined-verdict call lent ≡ Accepted = accepted-by judged accepted in
           let whole = recorded .whole (call .grid) (call .attribute) (darks .number) (darks .noded) .left in
           rw
           ok (

@@ -139,8 +139,8 @@ pub fn combined_map(
         causes::Cause::Output,
     );
     match verdict {
-        calls::Verdict::Refused(cause) => {
-            return calls::Verdict::Refused(cause);
+        calls::Verdict::Refused(first) => {
+            return calls::Verdict::Refused(first);
         }
         calls::Verdict::Accepted => {
             residues::size(picture, grid, attribute, steps, gap, workspace, index);

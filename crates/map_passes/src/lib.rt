@@ -1,10 +1,10 @@
 // The passes that give the maps of a picture: one over its nodes, from the last closed to the first and so from parents to children, which
-// settles each node from its parent; one over the pixels, which holds the pair of each pixel's node in the index map; and, when the picture is
-// needed no more, one that makes both maps of the pairs. A pair stands for a run of residues: end × 256 + total, where end is the place of its
-// last residue. What a node holds stands in two words by its number: in
-// part 3 its run word, place × 65536 + the pair of the run of its own fall; in part 7 the pair of the run of largest total, 0 where no residue
-// is. As there are at most 256 steps and greys, a pair has 16 bits; a node that never falls has 512 for its place, beyond every step and gap.
-// The time grows with the number of steps only by the search for the steps at which nodes fall, and not with the gap.
+// settles each node from its parent; one over the pixels, which holds the pair of each pixel's node in the index map; and, when the picture
+// is needed no more, one that makes both maps of the pairs. A pair stands for a run of residues: end × 256 + total, where end is the place
+// of its last residue. What a node holds stands in two words by its number: in part 3 its run word, place × 65536 + the pair of the run of
+// its own fall; in part 7 the pair of the run of largest total, 0 where no residue is. As there are at most 256 steps and greys, a pair has
+// 16 bits; a node that never falls has 512 for its place, beyond every step and gap. The time grows with the number of steps only by the
+// search for the steps at which nodes fall, and not with the gap.
 ghost use mathlib.Core.Path.{_≡_};
 ghost use mathlib.Core.Bool.{cond};
 ghost use Prim.Native.Nat.{ℕ, _≤_, _<_};

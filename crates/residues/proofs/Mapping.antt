@@ -89,6 +89,16 @@ unpacked {grid} held (is-residue, is-index) =
       is-index ∙ rw (held .size) (table-ext n _ _ (λ q b. held .right q b .1 ∙ table-at n _ q 0 b)),
     )
 
+-- an accepted call asks what sizing needs, of its picture or another of as many pixels
+pub sizes : {call : Map-call} → Map-passed call → {picture ws : List ℕ} → length picture ≡ pixels (call .grid) → length ws ≡ words-a-pixel * pixels (call .grid)
+    → Sizeable (call .grid) picture (call .steps) (call .gap) ws
+sizes passed bytes words =
+    record {
+      buildable = record { sides = passed .common .sides; bytes = bytes; words = words };
+      step-list = passed .steps;
+      small-gap = passed .gap;
+    }
+
 -- what holds of the answer, the workspace and the maps after a call
 abbrev pub Called : Map-call → Verdict → List ℕ → List ℕ → List ℕ → Type 0
 Called call answer workspace residue index =
@@ -111,13 +121,7 @@ module _ (call : Map-call) {verdict : Verdict} (judged : verdict ≡ map-verdict
     passed = map-passed call (sym judged ∙ accepted)
 
     pub size-asks : Sizeable (call .grid) (call .picture) (call .steps) (call .gap) (call .workspace)
-    size-asks =
-        let common = passed .common in
-        record {
-          buildable = record { sides = common .sides; bytes = common .a-byte-each; words = common .words-each };
-          step-list = passed .steps;
-          small-gap = passed .gap;
-        }
+    size-asks = sizes passed (passed .common .a-byte-each) (passed .common .words-each)
 
     -- the record is written, and then the maps
     pub called-done : {ws left pairs residue index : List ℕ} {number : ℕ}

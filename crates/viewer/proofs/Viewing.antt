@@ -19,6 +19,7 @@ use Rattle.causes.proofs.Laws.{both-true, bounded}
 use Rattle.calls.specs.declared.Verdict.{Verdict}
 use Rattle.calls.specs.declared.Verdict.the-variants.{Accepted, Refused}
 use Rattle.calls.proofs.Accepted.{All-hold, all-hold}
+use Rattle.viewer.specs.declared.Viewed.the-variants.{Start}
 use Rattle.viewer.specs.View.{View-call, in-view, viewing-tests, view-verdict, side-map, row-start, row-of, viewed-part, viewed, viewed-numbers, View-claim}
 
 -- what an accepted call has passed
@@ -122,9 +123,14 @@ module _ (call : View-call) where
       (λ refused. refused)
       (refused-or (view-verdict call))
 
+  start-is : view-verdict call ≡ Accepted → viewed call ≡ Start (row-start call)
+  unfolding viewed
+  start-is ok = rw ok refl
+
   pub view-claim : View-claim call
   view-claim =
       record {
+        start = start-is;
         long = part-long;
         row = part-row;
         empty = (part-empty, (λ (cause, refused). sym (part-refused call {verdict = view-verdict call} refl refused)));

@@ -79,8 +79,10 @@ abbrev pub viewed-numbers : Viewed → List ℕ
 viewed-numbers (Start start) = 0 ∷ start ∷ []
 viewed-numbers (Not-viewed cause) = number-of cause ∷ []
 
--- what the two functions promise of a call
+-- what the two functions promise of a call, the answer and the part
 pub record View-claim (call : View-call) : Type 0 where
+  -- an accepted call is told where the row starts
+  pub start : view-verdict call ≡ Accepted → viewed call ≡ Start (call .row * call .width)
   -- an accepted call gets that row of that map, at every position
   pub long : view-verdict call ≡ Accepted → length (viewed-part call) ≡ call .width
   pub row : view-verdict call ≡ Accepted → (column : ℕ) → column < call .width

@@ -58,7 +58,7 @@ pub fn view_start(light: &[u8], dark: &[u8], width: u32, height: u32, row: u32, 
     }
 }
 
-// A row of the map of a side, as a part of it; empty where the call is refused.
+// A row of the map of a side: a part of the lent slice itself, so nothing is copied; empty where the call is refused.
 pub fn view_row<'a>(
     light: &'a [u8],
     dark: &'a [u8],
