@@ -15,8 +15,8 @@ use Rattle.causes.specs.Bounds.{top-threshold, most-steps, most-gap, words-a-pi
 use Rattle.causes.specs.Sides.{sides-fit}
 pub use Rattle.causes.proofs.Laws.{Bounded, bounded}
 use Rattle.causes.specs.declared.Cause.{Cause}
-use Rattle.calls.specs.Judging.{threshold-good, all-good, steps-good, gap-good, Test, also, verdict-after, verdict-of, accepted}
-use Rattle.calls.specs.Calls.{Build-call, build-tests, build-verdict, Open-call, open-tests, open-verdict, Map-call, map-tests, map-verdict, map-residue, map-index, residue-map, index-map}
+use Rattle.calls.specs.Judging.{threshold-good, all-good, steps-good, step-good, list-good, gap-good, Test, also, verdict-after, verdict-of, accepted}
+use Rattle.calls.specs.Calls.{Build-call, build-tests, build-verdict, Open-call, open-tests, open-verdict, Map-call, map-tests, map-verdict, kept-by, map-residue, map-index, residue-map, index-map}
 use Rattle.calls.specs.declared.Verdict.{Verdict}
 use Rattle.calls.specs.declared.Verdict.the-variants.{Accepted, Refused}
 
@@ -92,7 +92,7 @@ build-passed call ok =
 
 pub record Open-passed (call : Open-call) : Type 0 where
   pub common : Passed (call .grid) (length (call .picture)) (length (call .workspace))
-  pub threshold : threshold-good (call .threshold) ≡ true
+  pub step : step-good (call .step) ≡ true
   pub output : length (call .output) ≡ pixels (call .grid)
 
 pub open-passed : (call : Open-call) → open-verdict call ≡ Accepted → Open-passed call
@@ -102,13 +102,13 @@ open-passed call ok =
     let named = h .1 .1 .1 .1 in
     record {
       common = record { sides = h .0; a-byte-each = eqb-true _ _ (h .1 .0); words-each = eqb-true _ _ (named .1 .0) };
-      threshold = named .0;
+      step = named .0;
       output = eqb-true _ _ (named .1 .1 .0);
     }
 
 pub record Map-passed (call : Map-call) : Type 0 where
   pub common : Passed (call .grid) (length (call .picture)) (length (call .workspace))
-  pub steps : steps-good (call .steps) ≡ true
+  pub steps : list-good (call .kind) (call .steps) ≡ true
   pub gap : call .gap ≤ most-gap
   pub residue : length (call .residue) ≡ pixels (call .grid)
   pub index : length (call .index) ≡ pixels (call .grid)
@@ -128,8 +128,8 @@ map-passed call ok =
 
 -- what an accepted map call writes
 pub maps-accepted : (call : Map-call) → map-verdict call ≡ Accepted
-    → (map-residue call ≡ residue-map (call .grid) (call .attribute) (call .steps) (call .gap) (call .picture))
-    × (map-index call ≡ index-map (call .grid) (call .attribute) (call .steps) (call .gap) (call .picture))
+    → (map-residue call ≡ residue-map (call .grid) (kept-by call) (call .gap) (call .picture))
+    × (map-index call ≡ index-map (call .grid) (kept-by call) (call .gap) (call .picture))
 unfolding map-residue map-index
 maps-accepted call ok = (rw ok, rw ok)
 

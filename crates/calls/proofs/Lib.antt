@@ -1,6 +1,7 @@
+pub mod Accepted
+pub mod Steps
 pub mod Openings
 pub mod Frame
-pub mod Accepted
 pub mod Reversed
 pub mod Combined
 pub mod RootToLeaf

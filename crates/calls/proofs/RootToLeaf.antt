@@ -23,6 +23,7 @@ use Rattle.tree.proofs.Listing.{listed-same, listed-once}
 use Rattle.tree.proofs.RootToLeaf.{nodes-few, zeros-after, listing-listed, parent-before, some-node, first-root, only-root}
 use Rattle.tree.proofs.Words.{parent-at, listed-at}
 use Rattle.causes.proofs.Laws.{Bounded, some-pixel}
+use Rattle.calls.specs.Steps.{step-attribute, list-attribute}
 use Rattle.calls.specs.Calls.{grey, record-of, Build-call, build-verdict, build-workspace, Open-call, open-verdict, open-workspace}
 use Rattle.calls.specs.Calls.{Map-call, map-verdict, map-workspace}
 use Rattle.calls.specs.Reversed.{reversed}
@@ -106,13 +107,13 @@ pub open-root-to-leaf : (call : Open-call) → open-verdict call ≡ Accepted �
 unfolding open-workspace
 open-root-to-leaf call accepted =
     let grid = call .grid in
-    rw accepted (record-root-to-leaf grid (call .attribute) (call .picture) (bounded (grid .width) (grid .height) (open-passed call accepted .common .sides)))
+    rw accepted (record-root-to-leaf grid (step-attribute (call .step)) (call .picture) (bounded (grid .width) (grid .height) (open-passed call accepted .common .sides)))
 
 pub map-root-to-leaf : (call : Map-call) → map-verdict call ≡ Accepted → Root-to-leaf (call .grid) (call .picture) (map-workspace call)
 unfolding map-workspace
 map-root-to-leaf call accepted =
     let grid = call .grid in
-    rw accepted (record-root-to-leaf grid (call .attribute) (call .picture) (bounded (grid .width) (grid .height) (map-passed call accepted .common .sides)))
+    rw accepted (record-root-to-leaf grid (list-attribute (call .kind)) (call .picture) (bounded (grid .width) (grid .height) (map-passed call accepted .common .sides)))
 
 -- a dark call is a map call on the reversed picture, and a combined call leaves the same
 pub combined-root-to-leaf : (call : Map-call) (contrast : List ℤ) → combined-verdict call contrast ≡ Accepted
@@ -121,4 +122,4 @@ unfolding combined-workspace
 combined-root-to-leaf call contrast accepted =
     let grid = call .grid in
     let passed = map-passed call (combined-passed call contrast accepted .0) in
-    rw accepted (record-root-to-leaf grid (call .attribute) (reversed (call .picture)) (bounded (grid .width) (grid .height) (passed .common .sides)))
+    rw accepted (record-root-to-leaf grid (list-attribute (call .kind)) (reversed (call .picture)) (bounded (grid .width) (grid .height) (passed .common .sides)))

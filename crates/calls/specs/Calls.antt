@@ -11,13 +11,16 @@ use Rattle.grid.specs.Neighbours.{adjacent}
 use Rattle.grid.specs.Attributes.{attribute}
 use Rattle.grid.specs.declared.Grid.{Grid}
 pub use Rattle.grid.specs.Greys.{grey}
-use Rattle.opening.specs.Opening.{opened}
+use Rattle.opening.specs.Opening.{Keeps, opened, opened-by}
 use Rattle.opening.specs.Node.{node}
-use Rattle.opening.specs.Residue.{threshold-tests, residue-by, index-by}
+use Rattle.opening.specs.Residue.{residue-by, index-by}
 use Rattle.tree.specs.Tree.{workspace, number-of-nodes}
 use Rattle.causes.specs.Causes.{number-of}
 use Rattle.causes.specs.declared.Cause.the-variants.{Steps}
-use Rattle.calls.specs.Judging.{threshold-good, Test, verdict-of, picture-tests, workspace-test, output-test, sizing-tests}
+use Rattle.calls.specs.Steps.{step-test, step-attribute, list-tests, list-attribute}
+use Rattle.calls.specs.Judging.{step-good, Test, verdict-of, picture-tests, workspace-test, output-test, sizing-tests}
+use Rattle.calls.specs.declared.Step.{Step}
+use Rattle.calls.specs.declared.Kind.{Kind}
 use Rattle.calls.specs.declared.Verdict.{Verdict}
 use Rattle.calls.specs.declared.Verdict.the-variants.{Accepted, Refused}
 use Rattle.calls.specs.declared.Built.{Built}
@@ -27,20 +30,20 @@ use Rattle.calls.specs.declared.Built.the-variants.{Nodes, Refused as No
 abbrev pub opening : Grid → ℕ → ℕ → (ℕ → ℕ) → ℕ → ℕ
 opening grid a t g p = opened (pixels grid) (adjacent grid) (attribute grid a) t g p
 
--- the opened picture
-unfoldable pub opened-picture : Grid → ℕ → ℕ → List ℕ → List ℕ
-opened-picture grid a t picture = table (pixels grid) (λ (p : ℕ). opening grid a t (grey picture) p)
+-- the picture opened by what a test keeps
+unfoldable pub opened-picture : Grid → Keeps → List ℕ → List ℕ
+opened-picture grid keeps picture = table (pixels grid) (λ (p : ℕ). opened-by (pixels grid) (adjacent grid) keeps (grey picture) p)
 
 -- "The map holds the largest run total"; at gap 0 "The residue map holds the largest residue (a byte)."
-unfoldable pub residue-map : Grid → ℕ → List ℕ → ℕ → List ℕ → List ℕ
-residue-map grid a steps gap picture =
-    table (pixels grid) (λ (p : ℕ). residue-by (pixels grid) (adjacent grid) (threshold-tests (attribute grid a) steps) gap (grey picture) p)
+unfoldable pub residue-map : Grid → List Keeps → ℕ → List ℕ → List ℕ
+residue-map grid tests gap picture =
+    table (pixels grid) (λ (p : ℕ). residue-by (pixels grid) (adjacent grid) tests gap (grey picture) p)
 
 -- "the index is the largest i + 1 of a non-null residue in a run attaining it, the largest among such runs, or 0"; at gap 0 "The index map
 -- holds the largest i + 1 attaining it (16 bits), or 0 where it is 0."
-unfoldable pub index-map : Grid → ℕ → List ℕ → ℕ → List ℕ → List ℕ
-index-map grid a steps gap picture =
-    table (pixels grid) (λ (p : ℕ). index-by (pixels grid) (adjacent grid) (threshold-tests (attribute grid a) steps) gap (grey picture) p)
+unfoldable pub index-map : Grid → List Keeps → ℕ → List ℕ → List ℕ
+index-map grid tests gap picture =
+    table (pixels grid) (λ (p : ℕ). index-by (pixels grid) (adjacent grid) tests gap (grey picture) p)
 
 -- the attribute of the node that p is an own pixel of
 abbrev pub node-attribute : Grid → ℕ → List ℕ → ℕ → ℕ
@@ -101,28 +104,27 @@ unfoldable pub build-workspace : Build-call → List ℕ
 build-workspace call =
     after (build-verdict call) (record-of (call .grid) (call .attribute) (call .picture)) (call .workspace)
 
--- Opening: what a call names and is lent.
+-- Opening: what a call names and is lent. The step is of either kind.
 pub record Open-call : Type 0 where
   pub picture : List ℕ
   pub grid : Grid
-  pub attribute : ℕ
-  pub threshold : ℕ
+  pub step : Step
   pub workspace : List ℕ
   pub output : List ℕ
 
-abbrev pub opening-of : List ℕ → Grid → ℕ → ℕ → List ℕ → List ℕ → Open-call
-opening-of picture grid a t workspace output =
-    record { picture = picture; grid = grid; attribute = a; threshold = t; workspace = workspace; output = output }
+abbrev pub opening-of : List ℕ → Grid → Step → List ℕ → List ℕ → Open-call
+opening-of picture grid step workspace output =
+    record { picture = picture; grid = grid; step = step; workspace = workspace; output = output }
 
-abbrev pub open-call : {E F G : Type 0} → Lent E → Grid → ℕ → ℕ → Lent F → Lent G → Open-call
-open-call picture grid attribute threshold workspace output =
-    opening-of (now (picture .entry)) grid attribute threshold (now (workspace .entry)) (now (output .entry))
+abbrev pub open-call : {E F G : Type 0} → Lent E → Grid → Step → Lent F → Lent G → Open-call
+open-call picture grid step workspace output =
+    opening-of (now (picture .entry)) grid step (now (workspace .entry)) (now (output .entry))
 
 -- its tests, in order; the verdict is its answer
 abbrev pub open-tests : Open-call → List Test
 open-tests call =
-    picture-tests (call .grid) (length (call .picture)) (call .attribute)
-    ++ (threshold-good (call .threshold), Steps)
+    picture-tests (call .grid) (length (call .picture)) (step-attribute (call .step))
+    ++ (step-good (call .step), Steps)
     ∷ workspace-test (call .grid) (length (call .workspace))
     ∷ output-test (call .grid) (length (call .output))
     ∷ []
@@ -133,32 +135,29 @@ open-verdict call = verdict-of (open-tests call)
 -- the workspace and the output after it
 unfoldable pub open-workspace : Open-call → List ℕ
 open-workspace call =
-    after (open-verdict call) (record-of (call .grid) (call .attribute) (call .picture)) (call .workspace)
+    after (open-verdict call) (record-of (call .grid) (step-attribute (call .step)) (call .picture)) (call .workspace)
 
 unfoldable pub open-output : Open-call → List ℕ
 open-output call =
-    after
-    (open-verdict call)
-    (opened-picture (call .grid) (call .attribute) (call .threshold) (call .picture))
-    (call .output)
+    after (open-verdict call) (opened-picture (call .grid) (step-test (call .grid) (call .step)) (call .picture)) (call .output)
 
--- Mapping: what a call names and is lent.
+-- Mapping: what a call names and is lent. The steps are of either kind.
 pub record Map-call : Type 0 where
   pub picture : List ℕ
   pub grid : Grid
-  pub attribute : ℕ
+  pub kind : Kind
   pub steps : List ℕ
   pub gap : ℕ
   pub workspace : List ℕ
   pub residue : List ℕ
   pub index : List ℕ
 
-abbrev pub mapping-of : List ℕ → Grid → ℕ → List ℕ → ℕ → List ℕ → List ℕ → List ℕ → Map-call
-mapping-of picture grid a steps gap workspace residue index =
+abbrev pub mapping-of : List ℕ → Grid → Kind → List ℕ → ℕ → List ℕ → List ℕ → List ℕ → Map-call
+mapping-of picture grid kind steps gap workspace residue index =
     record {
       picture = picture;
       grid = grid;
-      attribute = a;
+      kind = kind;
       steps = steps;
       gap = gap;
       workspace = workspace;
@@ -166,12 +165,12 @@ mapping-of picture grid a steps gap workspace residue index =
       index = index;
     }
 
-abbrev pub map-call : {E F G H I : Type 0} → Lent E → Grid → ℕ → Lent F → ℕ → Lent G → Lent H → Lent I → Map-call
-map-call picture grid attribute steps gap workspace residue index =
+abbrev pub map-call : {E F G H I : Type 0} → Lent E → Grid → Kind → Lent F → ℕ → Lent G → Lent H → Lent I → Map-call
+map-call picture grid kind steps gap workspace residue index =
     mapping-of
     (now (picture .entry))
     grid
-    attribute
+    kind
     (now (steps .entry))
     gap
     (now (workspace .entry))
@@ -184,7 +183,7 @@ map-tests call =
     sizing-tests
     (call .grid)
     (length (call .picture))
-    (call .attribute)
+    (call .kind)
     (call .steps)
     (call .gap)
     (length (call .workspace))
@@ -194,21 +193,17 @@ map-tests call =
 abbrev pub map-verdict : Map-call → Verdict
 map-verdict call = verdict-of (map-tests call)
 
+-- what its steps keep
+abbrev pub kept-by : Map-call → List Keeps
+kept-by call = list-tests (call .grid) (call .kind) (call .steps)
+
 -- the workspace and the two maps after it
 unfoldable pub map-workspace : Map-call → List ℕ
 map-workspace call =
-    after (map-verdict call) (record-of (call .grid) (call .attribute) (call .picture)) (call .workspace)
+    after (map-verdict call) (record-of (call .grid) (list-attribute (call .kind)) (call .picture)) (call .workspace)
 
 unfoldable pub map-residue : Map-call → List ℕ
-map-residue call =
-    after
-    (map-verdict call)
-    (residue-map (call .grid) (call .attribute) (call .steps) (call .gap) (call .picture))
-    (call .residue)
+map-residue call = after (map-verdict call) (residue-map (call .grid) (kept-by call) (call .gap) (call .picture)) (call .residue)
 
 unfoldable pub map-index : Map-call → List ℕ
-map-index call =
-    after
-    (map-verdict call)
-    (index-map (call .grid) (call .attribute) (call .steps) (call .gap) (call .picture))
-    (call .index)
+map-index call = after (map-verdict call) (index-map (call .grid) (kept-by call) (call .gap) (call .picture)) (call .index)

@@ -9,7 +9,8 @@ use lib.ListN.{length, getD}
 use Rattle.sets.specs.Sets.{table}
 use Rattle.grid.specs.Pixels.{pixels}
 use Rattle.calls.specs.Judging.{Test, verdict-of, output-test}
-use Rattle.calls.specs.Calls.{residue-map, index-map, record-of, after, Map-call, map-tests, map-residue, map-index}
+use Rattle.calls.specs.Steps.{list-attribute}
+use Rattle.calls.specs.Calls.{residue-map, index-map, record-of, after, Map-call, map-tests, kept-by, map-residue, map-index}
 use Rattle.calls.specs.Reversed.{reversed, reversed-call}
 use Rattle.calls.specs.declared.Verdict.{Verdict}
 
@@ -32,16 +33,16 @@ contrast-of light dark = cond (light-wins light dark) (pos light) (negℤ (pos d
 -- the entries of the light maps of a call at a position, and of the dark ones
 module _ (call : Map-call) (p : ℕ) where
   abbrev pub light-residue : ℕ
-  light-residue = getD (residue-map (call .grid) (call .attribute) (call .steps) (call .gap) (call .picture)) p 0
+  light-residue = getD (residue-map (call .grid) (kept-by call) (call .gap) (call .picture)) p 0
 
   abbrev pub light-index : ℕ
-  light-index = getD (index-map (call .grid) (call .attribute) (call .steps) (call .gap) (call .picture)) p 0
+  light-index = getD (index-map (call .grid) (kept-by call) (call .gap) (call .picture)) p 0
 
   abbrev pub dark-residue : ℕ
-  dark-residue = getD (residue-map (call .grid) (call .attribute) (call .steps) (call .gap) (reversed (call .picture))) p 0
+  dark-residue = getD (residue-map (call .grid) (kept-by call) (call .gap) (reversed (call .picture))) p 0
 
   abbrev pub dark-index : ℕ
-  dark-index = getD (index-map (call .grid) (call .attribute) (call .steps) (call .gap) (reversed (call .picture))) p 0
+  dark-index = getD (index-map (call .grid) (kept-by call) (call .gap) (reversed (call .picture))) p 0
 
 -- the three maps
 unfoldable pub combined-residues : Map-call → List ℕ
@@ -68,7 +69,7 @@ unfoldable pub combined-workspace : Map-call → List ℤ → List ℕ
 combined-workspace call contrast =
     after
     (combined-verdict call contrast)
-    (record-of (call .grid) (call .attribute) (reversed (call .picture)))
+    (record-of (call .grid) (list-attribute (call .kind)) (reversed (call .picture)))
     (call .workspace)
 
 -- and the three maps

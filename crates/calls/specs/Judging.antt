@@ -1,17 +1,24 @@
 -- When a call on a picture is refused, and for which cause. Only lengths and named numbers decide, never a grey.
-use Prim.Native.Nat.{ℕ, _*_}
+use Prim.Native.Nat.{ℕ, _*_, _%_}
 use mathlib.Core.Bool.{Bool, true, false, cond, _&&_, _||_}
 use mathlib.Core.List.{List, [], _∷_, _++_}
-use lib.Dec.{leb, eqb}
+use lib.Dec.{leb, ltb, eqb}
 use lib.ListN.{length}
 use Rattle.opening.specs.Residue.{rising}
 use Rattle.grid.specs.Pixels.{pixels}
+use Rattle.grid.specs.Triples.{zeros}
 use Rattle.grid.specs.declared.Grid.{Grid}
+use Rattle.grid.specs.declared.Triple.{Triple}
 use Rattle.causes.specs.Bounds.{top-threshold, most-steps, most-gap, words-a-pixel}
 use Rattle.causes.specs.Causes.{number-of}
 use Rattle.causes.specs.Sides.{sides-fit}
 use Rattle.causes.specs.declared.Cause.{Cause}
 use Rattle.causes.specs.declared.Cause.the-variants.{Sides, PictureLength, Attribute, Steps, Workspace, Output, Neighbours, Gap}
+use Rattle.calls.specs.Steps.{triples-in, step-attribute, list-attribute}
+use Rattle.calls.specs.declared.Step.{Step}
+use Rattle.calls.specs.declared.Step.the-variants.{Threshold, Three}
+use Rattle.calls.specs.declared.Kind.{Kind}
+use Rattle.calls.specs.declared.Kind.the-variants.{Thresholds, Triples}
 use Rattle.calls.specs.declared.Verdict.{Verdict}
 use Rattle.calls.specs.declared.Verdict.the-variants.{Accepted, Refused}
 
@@ -35,6 +42,46 @@ all-good (threshold ∷ rest) = threshold-good threshold && all-good rest
 -- "A step list has 1 to 256 thresholds, strictly rising, each in the range above"
 unfoldable pub steps-good : List ℕ → Bool
 steps-good steps = leb 1 (length steps) && leb (length steps) most-steps && (rising 0 steps && all-good steps)
+
+-- "each part 0 to 1,048,577"
+unfoldable pub parts-good : Triple → Bool
+parts-good t = leb (t .area) top-threshold && (leb (t .height) top-threshold && leb (t .width) top-threshold)
+
+-- "From one step to the next no part falls"
+unfoldable pub no-part-falls : Triple → Triple → Bool
+no-part-falls low t = leb (low .area) (t .area) && (leb (low .height) (t .height) && leb (low .width) (t .width))
+
+-- "and at least one rises"
+unfoldable pub some-part-rises : Triple → Triple → Bool
+some-part-rises low t = ltb (low .area) (t .area) || (ltb (low .height) (t .height) || ltb (low .width) (t .width))
+
+-- a triple that may follow low; "the first has a part above 0", so it may follow three zeros
+unfoldable pub may-follow : Triple → Triple → Bool
+may-follow low t = parts-good t && (no-part-falls low t && some-part-rises low t)
+
+-- triples one after the other, the first after low
+unfoldable pub rising-triples : Triple → List Triple → Bool
+rising-triples low [] = true
+rising-triples low (t ∷ rest) = may-follow low t && rising-triples t rest
+
+-- "a step cut short is a breach"
+abbrev pub whole-steps : List ℕ → Bool
+whole-steps words = eqb (length words % 3) 0
+
+-- a list of triples, lent as words: 1 to 256 steps
+unfoldable pub triples-good : List ℕ → Bool
+triples-good words =
+    (whole-steps words && (leb 1 (length words) && leb (length words) (3 * most-steps))) && rising-triples zeros (triples-in words)
+
+-- a step list of either kind
+abbrev pub list-good : Kind → List ℕ → Bool
+list-good (Thresholds a) steps = steps-good steps
+list-good Triples steps = triples-good steps
+
+-- a step of either kind that an opening may name: "Breaches are 4, and so is opening by three zeros."
+abbrev pub step-good : Step → Bool
+step-good (Threshold a t) = threshold-good t
+step-good (Three t) = may-follow zeros t
 
 -- "A gap number from 0 to 256"
 unfoldable pub gap-good : ℕ → Bool
@@ -75,10 +122,10 @@ abbrev pub output-test : Grid → ℕ → Test
 output-test grid entries = (eqb entries (pixels grid), Output)
 
 -- the tests of a call that sizes a picture, by what it names and the lengths of what it is lent: "19, gap above 256, after 4"
-abbrev pub sizing-tests : Grid → ℕ → ℕ → List ℕ → ℕ → ℕ → ℕ → ℕ → List Test
-sizing-tests grid bytes attribute steps gap words residues indices =
-    picture-tests grid bytes attribute
-    ++ (steps-good steps, Steps)
+abbrev pub sizing-tests : Grid → ℕ → Kind → List ℕ → ℕ → ℕ → ℕ → ℕ → List Test
+sizing-tests grid bytes kind steps gap words residues indices =
+    picture-tests grid bytes (list-attribute kind)
+    ++ (list-good kind steps, Steps)
     ∷ (gap-good gap, Gap)
     ∷ workspace-test grid words
     ∷ output-test grid residues

@@ -1,3 +1,4 @@
+pub mod Steps
 pub mod Judging
 pub mod Calls
 pub mod Reversed

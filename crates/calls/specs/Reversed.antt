@@ -16,7 +16,7 @@ reversed-call call =
     mapping-of
     (reversed (call .picture))
     (call .grid)
-    (call .attribute)
+    (call .kind)
     (call .steps)
     (call .gap)
     (call .workspace)

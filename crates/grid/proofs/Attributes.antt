@@ -100,7 +100,7 @@ module _ (grid : Grid) (a : ℕ) where
       cond-case (λ (k : ℕ). k ≡ 0) (eqb a 1) (λ e. count-none (pixels grid) s (none-in (pixels grid) s none)) (λ e. rw none)
 
 module _ (grid : Grid) (s : Positions) where
-  touches-intro : (q : ℕ) → q < pixels grid → s q ≡ true → on-frame grid q ≡ true → touches-frame grid s ≡ true
+  pub touches-intro : (q : ℕ) → q < pixels grid → s q ≡ true → on-frame grid q ≡ true → touches-frame grid s ≡ true
   touches-intro q below in-s frame =
       some-in-intro (pixels grid) (λ (x : ℕ). s x && on-frame grid x) q below (and-both (s q) (on-frame grid q) in-s frame)
 

@@ -1,14 +1,17 @@
 -- `calls::judge_sizing` meets its contract. Assumes nothing.
-use Rattle.calls.proofs.Judging.{tested}
+use Rattle.calls.proofs.Judging.{tested, named-by}
 use borrow.Author.Needs.{needs}
 use Rattle.calls.proofs.judge_sizing.Statement.{statement}
 use Rattle.calls.proofs.judge_sizing.Tie as tie
 
+list-attribute-requires : tie.Need-list-attribute-requires
+list-attribute-requires c κs = search needs
+
 judge-picture-requires : tie.Need-judge-picture-requires
 judge-picture-requires c κs = search needs
 
-steps-good-requires : tie.Need-steps-good-requires
-steps-good-requires c κs = search needs
+list-good-requires : tie.Need-list-good-requires
+list-good-requires c κs = search needs
 
 gap-good-requires : tie.Need-gap-good-requires
 gap-good-requires c κs = search needs
@@ -40,6 +43,8 @@ also-requires-5 c κs = search needs
 returns : tie.Need-returns
 returns c =
     let tests = c .before .before .before .before .before in
+    let picture = tests .before .before .before .before .before in
+    let named = picture .before .before .before .args in
     tested _
     (c .also5 .ensures)
     (tested _
@@ -50,8 +55,8 @@ returns c =
     (c .before .before .before .also2 .ensures)
     (tested _
     (c .before .before .before .before .also .ensures)
-    (tests .before .before .before .before .before .judge-picture .ensures)
-    (tests .before .before .before .before .steps-good .ensures))
+    (named-by (named .grid) (named .bytes) (picture .judge-picture .ensures) (picture .before .list-attribute .ensures))
+    (tests .before .before .before .before .list-good .ensures))
     (tests .before .before .before .gap-good .ensures))
     (tests .before .before .words-each .ensures))
     (tests .before .entry-each .ensures))
@@ -61,8 +66,9 @@ pub judge-sizing-spec : {M : Type 1} → statement M
 judge-sizing-spec =
     tie.close
     (tie.spec
+    list-attribute-requires
     judge-picture-requires
-    steps-good-requires
+    list-good-requires
     gap-good-requires
     words-each-requires
     entry-each-requires
