@@ -38,7 +38,7 @@ use Rattle.numbers.proofs.Same.{order-same, drops-same, numbered-same}
 use Rattle.numbers.proofs.Numbers.{number-forest, parent-first, number-root, number-lowest}
 use Rattle.own_pixels.specs.OwnPixels.{Countable, Owned}
 use Rattle.descendants.specs.Pouring.{Pourable, Poured}
-use Rattle.max_tree.specs.Building.{Buildable, Noded}
+use Rattle.max_tree.specs.Building.{Buildable, Measured}
 
 -- the picture fits the grid, and the workspace the picture
 pub record Fitted (grid : Grid) (picture ws : List ℕ) : Type 0 where
@@ -271,5 +271,14 @@ module _ {grid : Grid} {a : ℕ} {picture ws : List ℕ} {m : ℕ} (O : Own-left
               drops-same (P .ups) kept-closed (N .order) lowest-level (λ i b. ap (λ (v : ℕ). v % 256) (kept-word i b)) (N .up-within) (N .drops);
         }
 
-    pub noded : Buildable grid picture ws' → Noded grid a picture ws' m
-    noded B = record { buildable = B; nodes = nodes-left }
+    -- the nodes keep their numbers
+    numbers-left : NumberedBy grid picture ws' m
+    numbers-left = numbered-same kept-number (P .ups) kept-closed (λ i b. ap (λ (v : ℕ). v % 256) (kept-word i b)) N
+
+    pub measured-nodes : {lent : List ℕ} → Owned grid a n m lent ws → Buildable grid picture ws' → Measured grid a picture m lent ws'
+    measured-nodes owned B =
+        record {
+          noded = record { buildable = B; nodes = nodes-left };
+          flooded = record { buildable = B; numbers = numbers-left };
+          before = λ x b. P .before x b ∙ owned .kept .before x b;
+        }

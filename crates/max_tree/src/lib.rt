@@ -6,18 +6,31 @@ ghost use Prim.Native.Nat.{_+_, _-_, _*_, _≤_};
 ghost use lib.ListN.{length, take, replicate};
 ghost use Rattle.calls.specs.Calls.{build-call, built, built-numbers, build-workspace};
 ghost use Rattle.levels.specs.Workspace.{Sized};
-ghost use Rattle.max_tree.specs.Building.{Buildable, Noded, Recordable, Recorded, Whole};
+ghost use Rattle.max_tree.specs.Building.{Buildable, Flooded, Measured, Recordable, Recorded, Whole};
 use grid::Grid;
 
-// The words of the nodes: each has a number, its lowest own pixel, its parent's number and its attribute. Answers how many there are.
-pub fn build_nodes(picture: &[u8], grid: Grid, attribute: u32, workspace: &mut [u32]) -> usize
+// Gives each node of a picture a number. Answers how many there are.
+pub fn number_nodes(picture: &[u8], grid: Grid, workspace: &mut [u32]) -> usize
     requires { ⌜ Buildable grid (now picture) (now workspace) ⌝ }
-    ensures { λ r. ⌜ Noded grid attribute (now (picture .entry)) (now (workspace .exit)) r ⌝ }
+    ensures { λ r. ⌜ Flooded grid (now (picture .entry)) (now (workspace .exit)) r ⌝ }
 {
-    let nodes = flood::flood(picture, grid, workspace);
+    flood::flood(picture, grid, workspace)
+}
+
+// Measures the nodes, once they have numbers: each has its lowest own pixel, its parent's number and its attribute. It can be done again, by
+// another attribute.
+pub fn measure_nodes(
+    picture: &[u8],
+    grid: Grid,
+    attribute: u32,
+    nodes: usize,
+    workspace: &mut [u32],
+)
+    requires { ⌜ Flooded grid (now picture) (now workspace) nodes ⌝ }
+    ensures { λ _. ⌜ Measured grid attribute (now (picture .entry)) nodes (now (workspace .entry)) (now (workspace .exit)) ⌝ }
+{
     own_pixels::own_pixels(picture.len(), grid, attribute, nodes, workspace);
     descendants::descendants(picture, attribute, nodes, workspace);
-    nodes
 }
 
 // Zeroes what follows the nodes in the list of them, part 3.
@@ -60,7 +73,8 @@ pub fn build_record(picture: &[u8], grid: Grid, attribute: u32, workspace: &mut 
     requires { ⌜ Buildable grid (now picture) (now workspace) ⌝ }
     ensures { λ r. ⌜ Whole grid attribute (now (picture .entry)) (now (workspace .exit)) r ⌝ }
 {
-    build_nodes(picture, grid, attribute, workspace);
+    let nodes = number_nodes(picture, grid, workspace);
+    measure_nodes(picture, grid, attribute, nodes, workspace);
     write_whole(picture, workspace)
 }
 
