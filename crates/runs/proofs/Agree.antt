@@ -1,7 +1,7 @@
 -- The residue map of an accepted call with steps 1, 2, 3 and on holds the largest sums of equation 6.
 use Prim.Native.Nat.{ℕ, _<_, max}
 use mathlib.Core.List.{List}
-use mathlib.Core.Path.{_≡_, sym, ap, subst, _∙_}
+use mathlib.Core.Path.{_≡_, refl, sym, ap, subst, _∙_}
 use Rattle.opening.specs.Opening.{least-grey, Increasing, Keeps}
 use Rattle.opening.specs.Residue.{threshold-tests, residues, residue-by}
 use Rattle.opening.specs.Runs.{Run, run-total}
@@ -12,11 +12,12 @@ use Rattle.grid.proofs.Attributes.{adjacent-symmetric, attribute-increasing}
 use Rattle.grid.proofs.Whole.{grid-whole}
 use Rattle.tree.proofs.Together.{Together}
 use Rattle.falls.specs.Falls.{run-sum}
-use Rattle.calls.specs.Calls.{grey, Map-call, map-verdict}
+use Rattle.calls.specs.Steps.{list-tests, list-attribute}
+use Rattle.calls.specs.Calls.{grey, Map-call, map-verdict, kept-by}
 use Rattle.calls.specs.declared.Verdict.the-variants.{Accepted}
 use Rattle.calls.proofs.Accepted.{map-passed, bounded}
 use Rattle.runs.specs.Claim.{residue-at}
-use Rattle.runs.specs.Equation.{Equation-6, own-attribute, Counted, Sums-agree}
+use Rattle.runs.specs.Equation.{counting, Equation-6, own-attribute, Counted, Sums-agree}
 use Rattle.runs.proofs.Pixels.{residue-is}
 use Rattle.runs.proofs.Equation.{parent-inside, equation-only, sums-by-equation, run-is}
 
@@ -30,28 +31,33 @@ module _ (call : Map-call) (ok : map-verdict call ≡ Accepted) where
   whole : (p q : ℕ) → p < n → q < n → Together n (adjacent (call .grid)) g (least-grey n g) p q
   whole = grid-whole (call .grid) (bounded (call .grid .width) (call .grid .height) (map-passed call ok .common .sides) .wide) g
 
-  rise : Increasing n (attribute (call .grid) (call .attribute))
+  rise : Increasing n (attribute (call .grid) (list-attribute (call .kind)))
   rise =
-      attribute-increasing (call .grid) (call .attribute)
+      attribute-increasing (call .grid) (list-attribute (call .kind))
       (bounded (call .grid .width) (call .grid .height) (map-passed call ok .common .sides) .small)
 
   -- the sums are the totals of the runs of the nodes' own falls
   abbrev sum : ℕ → ℕ
-  sum p = run-sum n (adjacent (call .grid)) (threshold-tests (attribute (call .grid) (call .attribute)) (call .steps)) (call .gap) g p
+  sum p = run-sum n (adjacent (call .grid)) (kept-by call) (call .gap) g p
 
   module _ (m : ℕ) (counted : Counted call m) where
     abbrev kept : List ℕ → List Keeps
-    kept l = threshold-tests (attribute (call .grid) (call .attribute)) l
+    kept l = threshold-tests (attribute (call .grid) (list-attribute (call .kind))) l
+
+    -- what the steps keep
+    steps-keep : kept-by call ≡ kept (counting 1 m)
+    unfolding list-tests
+    steps-keep = rw (counted .kind .1, counted .steps) refl
 
     by-definition : Equation-6 n (adjacent (call .grid)) (own-attribute call) (call .gap) g sum
-        (λ (p : ℕ). residue-by n (adjacent (call .grid)) (kept (call .steps)) (call .gap) g p)
+        (λ (p : ℕ). residue-by n (adjacent (call .grid)) (kept-by call) (call .gap) g p)
     by-definition =
         subst
-        (λ (l : List ℕ).
+        (λ (l : List Keeps).
         Equation-6 n (adjacent (call .grid)) (own-attribute call) (call .gap) g
-        (λ (p : ℕ). run-sum n (adjacent (call .grid)) (kept l) (call .gap) g p)
-        (λ (p : ℕ). residue-by n (adjacent (call .grid)) (kept l) (call .gap) g p))
-        (sym (counted .steps))
+        (λ (p : ℕ). run-sum n (adjacent (call .grid)) l (call .gap) g p)
+        (λ (p : ℕ). residue-by n (adjacent (call .grid)) l (call .gap) g p))
+        (sym steps-keep)
         (sums-by-equation n (adjacent (call .grid)) (adjacent-symmetric (call .grid)) _ rise g whole m (call .gap) (counted .below-last))
 
     equation : Equation-6 n (adjacent (call .grid)) (own-attribute call) (call .gap) g sum (residue-at call)
@@ -72,11 +78,11 @@ module _ (call : Map-call) (ok : map-verdict call ≡ Accepted) where
           sums = equation;
           run = λ p b above.
               subst
-              (λ (l : List ℕ).
-              let rs = residues n (adjacent (call .grid)) (kept l) g p in
+              (λ (l : List Keeps).
+              let rs = residues n (adjacent (call .grid)) l g p in
               (c : ℕ) × Run (call .gap) rs (own-attribute call p) c
-              × (run-sum n (adjacent (call .grid)) (kept l) (call .gap) g p ≡ run-total rs (own-attribute call p) c))
-              (sym (counted .steps))
+              × (run-sum n (adjacent (call .grid)) l (call .gap) g p ≡ run-total rs (own-attribute call p) c))
+              (sym steps-keep)
               (run-is n (adjacent (call .grid)) (adjacent-symmetric (call .grid)) _ rise g whole m (call .gap) (counted .below-last) p b above);
         }
 

@@ -5,27 +5,26 @@ use mathlib.Core.Path.{_≡_, _∙_}
 use native.Mathlib.Omega.{arith}
 use lib.ListN.{getD, length-map}
 use Rattle.sets.proofs.Laws.{table-at}
-use Rattle.opening.specs.Opening.{Keeps, at-least, opened-by}
-use Rattle.opening.specs.Residue.{largest, largest-place, threshold-tests, Narrowing, residues, residue-by, index-by}
+use Rattle.opening.specs.Opening.{Keeps, opened-by}
+use Rattle.opening.specs.Residue.{largest, largest-place, Narrowing, residues, residue-by, index-by}
 use Rattle.opening.specs.Runs.{Run, run-total, By-runs}
 use Rattle.opening.proofs.Joined.{joined-le, residue-zero, index-zero}
-use Rattle.opening.proofs.Residue.{threshold-tests-narrow, residues-fall, residues-total}
+use Rattle.opening.proofs.Residue.{residues-fall, residues-total}
 use Rattle.opening.proofs.Runs.{in-a-run, run-once}
 use Rattle.opening.proofs.RunLaws.{by-runs, by-runs-only, run-joined, place-inside, run-telescopes}
 use Rattle.grid.specs.Pixels.{pixels}
 use Rattle.grid.specs.Neighbours.{adjacent}
-use Rattle.grid.specs.Attributes.{attribute}
-use Rattle.grid.proofs.Attributes.{attribute-increasing}
 use Rattle.falls.proofs.Raised.{length-falls}
-use Rattle.calls.specs.Calls.{grey, Map-call, map-verdict, residue-map, index-map}
+use Rattle.calls.specs.Calls.{grey, Map-call, map-verdict, kept-by, residue-map, index-map}
 use Rattle.calls.specs.declared.Verdict.the-variants.{Accepted}
-use Rattle.calls.proofs.Accepted.{map-passed, maps-accepted, bounded, step-list}
+use Rattle.calls.proofs.Accepted.{map-passed, maps-accepted, bounded}
+use Rattle.calls.proofs.Steps.{everything, list-narrow}
 use Rattle.runs.specs.Claim.{residues-of, greys-of, residue-at, index-at, At-pixel}
 
 module _ (call : Map-call) (ok : map-verdict call ≡ Accepted) where
   -- what the call writes
   abbrev tests : List Keeps
-  tests = threshold-tests (attribute (call .grid) (call .attribute)) (call .steps)
+  tests = kept-by call
 
   pub residue-is : (p : ℕ) → p < pixels (call .grid)
       → residue-at call p ≡ residue-by (pixels (call .grid)) (adjacent (call .grid)) tests (call .gap) (grey (call .picture)) p
@@ -38,17 +37,10 @@ module _ (call : Map-call) (ok : map-verdict call ≡ Accepted) where
   index-is p below = rw (maps-accepted call ok .1) (table-at (pixels (call .grid)) _ p 0 below)
 
   -- its tests get narrower
-  narrow : Narrowing (pixels (call .grid)) (at-least (attribute (call .grid) (call .attribute)) 0) tests
+  narrow : Narrowing (pixels (call .grid)) everything tests
   narrow =
       let passed = map-passed call ok in
-      let fits = bounded (call .grid .width) (call .grid .height) (passed .common .sides) in
-      threshold-tests-narrow
-      (pixels (call .grid))
-      (attribute (call .grid) (call .attribute))
-      (attribute-increasing (call .grid) (call .attribute) (fits .small))
-      0
-      (call .steps)
-      (step-list (call .steps) (passed .steps) .rises)
+      list-narrow (call .grid) (bounded (call .grid .width) (call .grid .height) (passed .common .sides) .small) (call .kind) (call .steps) (passed .steps)
 
   module _ (p : ℕ) (below : p < pixels (call .grid)) where
     abbrev rs : List ℕ

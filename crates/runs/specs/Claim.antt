@@ -3,28 +3,21 @@ use Prim.Native.Nat.{ℕ, suc, _+_, _≤_, _<_}
 use mathlib.Core.List.{List, _∷_}
 use mathlib.Core.Path.{_≡_}
 use lib.ListN.{getD}
-use Rattle.opening.specs.Residue.{largest, largest-place, threshold-tests, openings-by, residues}
+use Rattle.opening.specs.Residue.{largest, largest-place, openings-by, residues}
 use Rattle.opening.specs.Runs.{Run, run-total, By-runs}
 use Rattle.grid.specs.Pixels.{pixels}
 use Rattle.grid.specs.Neighbours.{adjacent}
-use Rattle.grid.specs.Attributes.{attribute}
-use Rattle.calls.specs.Calls.{grey, Map-call, map-residue, map-index}
+use Rattle.calls.specs.Calls.{grey, Map-call, kept-by, map-residue, map-index}
 
 -- the residues of the pixel p of a call's picture under its steps
 abbrev pub residues-of : Map-call → ℕ → List ℕ
 residues-of call p =
-    residues (pixels (call .grid)) (adjacent (call .grid)) (threshold-tests (attribute (call .grid) (call .attribute)) (call .steps)) (grey (call .picture)) p
+    residues (pixels (call .grid)) (adjacent (call .grid)) (kept-by call) (grey (call .picture)) p
 
 -- its greys: that of the picture, then those of the openings, one a step
 abbrev pub greys-of : Map-call → ℕ → List ℕ
 greys-of call p =
-    grey (call .picture) p
-    ∷ openings-by
-    (pixels (call .grid))
-    (adjacent (call .grid))
-    (threshold-tests (attribute (call .grid) (call .attribute)) (call .steps))
-    (grey (call .picture))
-    p
+    grey (call .picture) p ∷ openings-by (pixels (call .grid)) (adjacent (call .grid)) (kept-by call) (grey (call .picture)) p
 
 -- its entries of the two maps after the call
 abbrev pub residue-at : Map-call → ℕ → ℕ

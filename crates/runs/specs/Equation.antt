@@ -11,7 +11,9 @@ use Rattle.opening.specs.Runs.{Run, run-total}
 use Rattle.grid.specs.Pixels.{pixels}
 use Rattle.grid.specs.Neighbours.{adjacent}
 use Rattle.tree.specs.Tree.{parent-representative}
+use Rattle.calls.specs.Steps.{list-attribute}
 use Rattle.calls.specs.Calls.{grey, node-attribute, Map-call}
+use Rattle.calls.specs.declared.Kind.the-variants.{Thresholds}
 use Rattle.runs.specs.Claim.{residues-of, residue-at}
 
 -- "steps 1, 2, 3 and on": so many from a number on
@@ -32,15 +34,16 @@ pub record Equation-6 (n : ℕ) (adj : Adjacency) (k : ℕ → ℕ) (gap : ℕ) 
 
 -- the attribute of a pixel's node
 abbrev pub own-attribute : Map-call → ℕ → ℕ
-own-attribute call p = node-attribute (call .grid) (call .attribute) (call .picture) p
+own-attribute call p = node-attribute (call .grid) (list-attribute (call .kind)) (call .picture) p
 
 -- the node of p is not the root
 abbrev pub Below-root : Map-call → ℕ → Type 0
 Below-root call p = least-grey (pixels (call .grid)) (grey (call .picture)) < grey (call .picture) p
 
--- "for steps 1, 2, 3 and on if every node but the root has an attribute below the last step". What touches the frame has 1,048,577 for each
+-- thresholds of one attribute: "for steps 1, 2, 3 and on if every node but the root has an attribute below the last step". What touches the frame has 1,048,577 for each
 -- attribute, so only the root touches it then.
 pub record Counted (call : Map-call) (m : ℕ) : Type 0 where
+  pub kind : (a : ℕ) × (call .kind ≡ Thresholds a)
   pub steps : call .steps ≡ counting 1 m
   pub below-last : (p : ℕ) → p < pixels (call .grid) → Below-root call p → own-attribute call p < m
 

@@ -17,9 +17,10 @@ use Rattle.opening.specs.Residue.{falls-from, soon, joined, largest, last-place
 use Rattle.tree.specs.Tree.{lowest-own, representative, node-below, parent-representative, is-representative, number-of-nodes}
 use Rattle.tree.specs.Tree.{parent-word, attribute-word, parents, attributes, put, by-level, listing, workspace}
 use Rattle.calls.specs.Judging.{attribute-good, neighbours-good, also}
+use Rattle.calls.specs.Steps.{step-test, list-tests}
 use Rattle.calls.specs.Calls.{grey, record-of, built, opened-picture, residue-map, index-map}
 use Rattle.calls.specs.declared.Built.the-variants.{Nodes}
-use Rattle.small_pictures.specs.Table.{ringed-P, parents-P, attributes-P, nodes-P, building-P, Starred}
+use Rattle.small_pictures.specs.Table.{ringed-P, parents-P, attributes-P, nodes-P, building-P, Starred, opened-at, residues-at, indices-at}
 
 -- the neighbours in P
 abbrev near : Adjacency
@@ -69,8 +70,8 @@ opened-from cs keeps =
 opened-P : ℕ → ℕ → List ℕ
 opened-P a t = opened-from components-P (at-least (attribute (grid-of 7 3 4) a) t)
 
-opened-is : (a t : ℕ) → opened-picture (grid-of 7 3 4) a t ringed-P ≡ opened-P a t
-unfolding components opened-from opened-P table-from table least-grey highest-above opened-by opened-picture
+opened-is : (a t : ℕ) → opened-at (grid-of 7 3 4) a t ringed-P ≡ opened-P a t
+unfolding step-test components opened-from opened-P table-from table least-grey highest-above opened-by opened-picture
 opened-is a t = ap (λ (cs : List (List (List Bool))). opened-from cs (at-least (attribute (grid-of 7 3 4) a) t)) components-are
 
 -- a map of P from its openings: at each pixel, f of its falls
@@ -80,7 +81,7 @@ mapped f openings = table 21 (λ (p : ℕ). f (falls-from (grey ringed-P p) (map
 openings-are : (a : ℕ) (steps : List ℕ) (p : ℕ) → p < 21
     → openings-by 21 near (threshold-tests (attribute (grid-of 7 3 4) a) steps) (grey ringed-P) p
     ≡ map (λ (opened : List ℕ). grey opened p) (map (opened-P a) steps)
-unfolding opened-picture
+unfolding step-test opened-picture
 openings-are a [] p below = refl
 openings-are a (t ∷ steps) p below =
     cc (
@@ -90,15 +91,15 @@ openings-are a (t ∷ steps) p below =
     )
 
 residue-is : (a : ℕ) (steps : List ℕ) (gap : ℕ)
-    → residue-map (grid-of 7 3 4) a steps gap ringed-P ≡ mapped (λ (rs : List ℕ). largest (joined gap 0 rs)) (map (opened-P a) steps)
-unfolding mapped residues residue-by residue-map
+    → residues-at (grid-of 7 3 4) a steps gap ringed-P ≡ mapped (λ (rs : List ℕ). largest (joined gap 0 rs)) (map (opened-P a) steps)
+unfolding list-tests mapped residues residue-by residue-map
 residue-is a steps gap =
     table-ext 21 _ _
     (λ p below. ap (λ (l : List ℕ). largest (joined gap 0 (falls-from (grey ringed-P p) l))) (openings-are a steps p below))
 
 index-is : (a : ℕ) (steps : List ℕ) (gap : ℕ)
-    → index-map (grid-of 7 3 4) a steps gap ringed-P ≡ mapped (λ (rs : List ℕ). largest-place (joined gap 0 rs)) (map (opened-P a) steps)
-unfolding mapped residues index-by index-map
+    → indices-at (grid-of 7 3 4) a steps gap ringed-P ≡ mapped (λ (rs : List ℕ). largest-place (joined gap 0 rs)) (map (opened-P a) steps)
+unfolding list-tests mapped residues index-by index-map
 index-is a steps gap =
     table-ext 21 _ _
     (λ p below. ap (λ (l : List ℕ). largest-place (joined gap 0 (falls-from (grey ringed-P p) l))) (openings-are a steps p below))
@@ -106,7 +107,7 @@ index-is a steps gap =
 pub starred : Starred
 unfolding components-P opened-from opened-P mapped adjacent some-in count table-from table gather seed grow grown component extent side visible
     on-frame attribute component-at least-grey highest-above opened-by falls-from soon joined largest last-place largest-place residues
-    residue-by index-by residue-map index-map
+    residue-by index-by list-tests residue-map index-map
 starred =
     record {
       tree-record = record-is;

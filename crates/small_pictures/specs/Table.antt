@@ -6,8 +6,12 @@ use mathlib.Core.List.{List, [], _∷_, _++_, foldr}
 use mathlib.Core.Path.{_≡_}
 use lib.ListN.{length, replicate}
 use Rattle.grid.specs.Pixels.{grid-of}
+use Rattle.grid.specs.declared.Grid.{Grid}
+use Rattle.calls.specs.Steps.{step-test, list-tests}
 use Rattle.calls.specs.Calls.{record-of, Build-call, built, opened-picture, residue-map, index-map}
 use Rattle.calls.specs.declared.Built.the-variants.{Nodes}
+use Rattle.calls.specs.declared.Step.the-variants.{Threshold}
+use Rattle.calls.specs.declared.Kind.the-variants.{Thresholds}
 
 -- rows of w entries, set in a ring of v: a row of v, each row between two v, and a row of v
 abbrev pub ringed : ℕ → ℕ → List (List ℕ) → List ℕ
@@ -43,6 +47,16 @@ nodes-P = (0 ∷ 10 ∷ 9 ∷ 11 ∷ []) ++ replicate 17 0
 abbrev pub ringed-Q : List ℕ
 ringed-Q = ringed 0 2 ((9 ∷ 0 ∷ []) ∷ (0 ∷ 9 ∷ []) ∷ [])
 
+-- opened at a threshold, and the maps of a list of thresholds and a gap
+abbrev pub opened-at : Grid → ℕ → ℕ → List ℕ → List ℕ
+opened-at grid a t picture = opened-picture grid (step-test grid (Threshold a t)) picture
+
+abbrev pub residues-at : Grid → ℕ → List ℕ → ℕ → List ℕ → List ℕ
+residues-at grid a steps gap picture = residue-map grid (list-tests grid (Thresholds a) steps) gap picture
+
+abbrev pub indices-at : Grid → ℕ → List ℕ → ℕ → List ℕ → List ℕ
+indices-at grid a steps gap picture = index-map grid (list-tests grid (Thresholds a) steps) gap picture
+
 -- a building call on P by area
 abbrev pub building-P : List ℕ → Build-call
 building-P lent = record { picture = ringed-P; grid = grid-of 7 3 4; attribute = 1; workspace = lent }
@@ -53,30 +67,30 @@ pub record Starred : Type 0 where
   pub tree-record : record-of (grid-of 7 3 4) 1 ringed-P ≡ parents-P ++ attributes-P ++ nodes-P ++ replicate 84 0
   pub tree-nodes : (lent : List ℕ) → length lent ≡ 147 → built (building-P lent) ≡ Nodes 4
   -- "P, area, steps 1 2 3 4: residue 0 10 10 30 0, index 0 4 4 2 0."
-  pub steps-1-2-3-4-residue : residue-map (grid-of 7 3 4) 1 (1 ∷ 2 ∷ 3 ∷ 4 ∷ []) 0 ringed-P ≡ ringed 0 5 ((0 ∷ 10 ∷ 10 ∷ 30 ∷ 0 ∷ []) ∷ [])
-  pub steps-1-2-3-4-index : index-map (grid-of 7 3 4) 1 (1 ∷ 2 ∷ 3 ∷ 4 ∷ []) 0 ringed-P ≡ ringed 0 5 ((0 ∷ 4 ∷ 4 ∷ 2 ∷ 0 ∷ []) ∷ [])
+  pub steps-1-2-3-4-residue : residues-at (grid-of 7 3 4) 1 (1 ∷ 2 ∷ 3 ∷ 4 ∷ []) 0 ringed-P ≡ ringed 0 5 ((0 ∷ 10 ∷ 10 ∷ 30 ∷ 0 ∷ []) ∷ [])
+  pub steps-1-2-3-4-index : indices-at (grid-of 7 3 4) 1 (1 ∷ 2 ∷ 3 ∷ 4 ∷ []) 0 ringed-P ≡ ringed 0 5 ((0 ∷ 4 ∷ 4 ∷ 2 ∷ 0 ∷ []) ∷ [])
   -- "P with area, steps 1 to 4, gap 2 gives 0 20 10 40 0 and 0 4 4 4 0."
-  pub gap-2-residue : residue-map (grid-of 7 3 4) 1 (1 ∷ 2 ∷ 3 ∷ 4 ∷ []) 2 ringed-P ≡ ringed 0 5 ((0 ∷ 20 ∷ 10 ∷ 40 ∷ 0 ∷ []) ∷ [])
-  pub gap-2-index : index-map (grid-of 7 3 4) 1 (1 ∷ 2 ∷ 3 ∷ 4 ∷ []) 2 ringed-P ≡ ringed 0 5 ((0 ∷ 4 ∷ 4 ∷ 4 ∷ 0 ∷ []) ∷ [])
+  pub gap-2-residue : residues-at (grid-of 7 3 4) 1 (1 ∷ 2 ∷ 3 ∷ 4 ∷ []) 2 ringed-P ≡ ringed 0 5 ((0 ∷ 20 ∷ 10 ∷ 40 ∷ 0 ∷ []) ∷ [])
+  pub gap-2-index : indices-at (grid-of 7 3 4) 1 (1 ∷ 2 ∷ 3 ∷ 4 ∷ []) 2 ringed-P ≡ ringed 0 5 ((0 ∷ 4 ∷ 4 ∷ 4 ∷ 0 ∷ []) ∷ [])
   -- "P, area, steps 2 4: same residue, index 0 2 2 1 0."
-  pub steps-2-4-residue : residue-map (grid-of 7 3 4) 1 (2 ∷ 4 ∷ []) 0 ringed-P ≡ ringed 0 5 ((0 ∷ 10 ∷ 10 ∷ 30 ∷ 0 ∷ []) ∷ [])
-  pub steps-2-4-index : index-map (grid-of 7 3 4) 1 (2 ∷ 4 ∷ []) 0 ringed-P ≡ ringed 0 5 ((0 ∷ 2 ∷ 2 ∷ 1 ∷ 0 ∷ []) ∷ [])
+  pub steps-2-4-residue : residues-at (grid-of 7 3 4) 1 (2 ∷ 4 ∷ []) 0 ringed-P ≡ ringed 0 5 ((0 ∷ 10 ∷ 10 ∷ 30 ∷ 0 ∷ []) ∷ [])
+  pub steps-2-4-index : indices-at (grid-of 7 3 4) 1 (2 ∷ 4 ∷ []) 0 ringed-P ≡ ringed 0 5 ((0 ∷ 2 ∷ 2 ∷ 1 ∷ 0 ∷ []) ∷ [])
   -- "P, area, step 1: all 0."
-  pub step-1-residue : residue-map (grid-of 7 3 4) 1 (1 ∷ []) 0 ringed-P ≡ ringed 0 5 ((0 ∷ 0 ∷ 0 ∷ 0 ∷ 0 ∷ []) ∷ [])
-  pub step-1-index : index-map (grid-of 7 3 4) 1 (1 ∷ []) 0 ringed-P ≡ ringed 0 5 ((0 ∷ 0 ∷ 0 ∷ 0 ∷ 0 ∷ []) ∷ [])
+  pub step-1-residue : residues-at (grid-of 7 3 4) 1 (1 ∷ []) 0 ringed-P ≡ ringed 0 5 ((0 ∷ 0 ∷ 0 ∷ 0 ∷ 0 ∷ []) ∷ [])
+  pub step-1-index : indices-at (grid-of 7 3 4) 1 (1 ∷ []) 0 ringed-P ≡ ringed 0 5 ((0 ∷ 0 ∷ 0 ∷ 0 ∷ 0 ∷ []) ∷ [])
   -- "P, area, step 6: residue 0 20 10 40 0, index 0 1 1 1 0."
-  pub step-6-residue : residue-map (grid-of 7 3 4) 1 (6 ∷ []) 0 ringed-P ≡ ringed 0 5 ((0 ∷ 20 ∷ 10 ∷ 40 ∷ 0 ∷ []) ∷ [])
-  pub step-6-index : index-map (grid-of 7 3 4) 1 (6 ∷ []) 0 ringed-P ≡ ringed 0 5 ((0 ∷ 1 ∷ 1 ∷ 1 ∷ 0 ∷ []) ∷ [])
+  pub step-6-residue : residues-at (grid-of 7 3 4) 1 (6 ∷ []) 0 ringed-P ≡ ringed 0 5 ((0 ∷ 20 ∷ 10 ∷ 40 ∷ 0 ∷ []) ∷ [])
+  pub step-6-index : indices-at (grid-of 7 3 4) 1 (6 ∷ []) 0 ringed-P ≡ ringed 0 5 ((0 ∷ 1 ∷ 1 ∷ 1 ∷ 0 ∷ []) ∷ [])
   -- "P, height, steps 1 2: residue 0 20 10 40 0, index 0 2 2 2 0."
-  pub height-residue : residue-map (grid-of 7 3 4) 2 (1 ∷ 2 ∷ []) 0 ringed-P ≡ ringed 0 5 ((0 ∷ 20 ∷ 10 ∷ 40 ∷ 0 ∷ []) ∷ [])
-  pub height-index : index-map (grid-of 7 3 4) 2 (1 ∷ 2 ∷ []) 0 ringed-P ≡ ringed 0 5 ((0 ∷ 2 ∷ 2 ∷ 2 ∷ 0 ∷ []) ∷ [])
+  pub height-residue : residues-at (grid-of 7 3 4) 2 (1 ∷ 2 ∷ []) 0 ringed-P ≡ ringed 0 5 ((0 ∷ 20 ∷ 10 ∷ 40 ∷ 0 ∷ []) ∷ [])
+  pub height-index : indices-at (grid-of 7 3 4) 2 (1 ∷ 2 ∷ []) 0 ringed-P ≡ ringed 0 5 ((0 ∷ 2 ∷ 2 ∷ 2 ∷ 0 ∷ []) ∷ [])
   -- "P opened by area at 2 and at 3: both 10 20 20 20 10. At 4: all 10."
-  pub opened-2 : opened-picture (grid-of 7 3 4) 1 2 ringed-P ≡ ringed 10 5 ((10 ∷ 20 ∷ 20 ∷ 20 ∷ 10 ∷ []) ∷ [])
-  pub opened-3 : opened-picture (grid-of 7 3 4) 1 3 ringed-P ≡ ringed 10 5 ((10 ∷ 20 ∷ 20 ∷ 20 ∷ 10 ∷ []) ∷ [])
-  pub opened-4 : opened-picture (grid-of 7 3 4) 1 4 ringed-P ≡ ringed 10 5 ((10 ∷ 10 ∷ 10 ∷ 10 ∷ 10 ∷ []) ∷ [])
+  pub opened-2 : opened-at (grid-of 7 3 4) 1 2 ringed-P ≡ ringed 10 5 ((10 ∷ 20 ∷ 20 ∷ 20 ∷ 10 ∷ []) ∷ [])
+  pub opened-3 : opened-at (grid-of 7 3 4) 1 3 ringed-P ≡ ringed 10 5 ((10 ∷ 20 ∷ 20 ∷ 20 ∷ 10 ∷ []) ∷ [])
+  pub opened-4 : opened-at (grid-of 7 3 4) 1 4 ringed-P ≡ ringed 10 5 ((10 ∷ 10 ∷ 10 ∷ 10 ∷ 10 ∷ []) ∷ [])
   -- "Two rows, 9 0 and 0 9, area, step 2: residue 9 0 0 9, index 1 0 0 1."
-  pub two-rows-residue : residue-map (grid-of 4 4 4) 1 (2 ∷ []) 0 ringed-Q ≡ ringed 0 2 ((9 ∷ 0 ∷ []) ∷ (0 ∷ 9 ∷ []) ∷ [])
-  pub two-rows-index : index-map (grid-of 4 4 4) 1 (2 ∷ []) 0 ringed-Q ≡ ringed 0 2 ((1 ∷ 0 ∷ []) ∷ (0 ∷ 1 ∷ []) ∷ [])
+  pub two-rows-residue : residues-at (grid-of 4 4 4) 1 (2 ∷ []) 0 ringed-Q ≡ ringed 0 2 ((9 ∷ 0 ∷ []) ∷ (0 ∷ 9 ∷ []) ∷ [])
+  pub two-rows-index : indices-at (grid-of 4 4 4) 1 (2 ∷ []) 0 ringed-Q ≡ ringed 0 2 ((1 ∷ 0 ∷ []) ∷ (0 ∷ 1 ∷ []) ∷ [])
   -- "With 8, the two-row case of 01 has zero maps."
-  pub corners-residue : residue-map (grid-of 4 4 8) 1 (2 ∷ []) 0 ringed-Q ≡ ringed 0 2 ((0 ∷ 0 ∷ []) ∷ (0 ∷ 0 ∷ []) ∷ [])
-  pub corners-index : index-map (grid-of 4 4 8) 1 (2 ∷ []) 0 ringed-Q ≡ ringed 0 2 ((0 ∷ 0 ∷ []) ∷ (0 ∷ 0 ∷ []) ∷ [])
+  pub corners-residue : residues-at (grid-of 4 4 8) 1 (2 ∷ []) 0 ringed-Q ≡ ringed 0 2 ((0 ∷ 0 ∷ []) ∷ (0 ∷ 0 ∷ []) ∷ [])
+  pub corners-index : indices-at (grid-of 4 4 8) 1 (2 ∷ []) 0 ringed-Q ≡ ringed 0 2 ((0 ∷ 0 ∷ []) ∷ (0 ∷ 0 ∷ []) ∷ [])
