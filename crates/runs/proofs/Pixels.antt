@@ -9,7 +9,7 @@ use Rattle.opening.specs.Opening.{Keeps, at-least, opened-by}
 use Rattle.opening.specs.Residue.{largest, largest-place, threshold-tests, Narrowing, residues, residue-by, index-by}
 use Rattle.opening.specs.Runs.{Run, run-total, By-runs}
 use Rattle.opening.proofs.Joined.{joined-le, residue-zero, index-zero}
-use Rattle.opening.proofs.Residue.{threshold-tests-narrow, residues-fall, residues-total}
+use Rattle.opening.proofs.Residue.{rising-not-falling, threshold-tests-narrow, residues-fall, residues-total}
 use Rattle.opening.proofs.Runs.{in-a-run, run-once}
 use Rattle.opening.proofs.RunLaws.{by-runs, by-runs-only, run-joined, place-inside, run-telescopes}
 use Rattle.grid.specs.Pixels.{pixels}
@@ -48,7 +48,7 @@ module _ (call : Map-call) (ok : map-verdict call ≡ Accepted) where
       (attribute-increasing (call .grid) (call .attribute) (fits .small))
       0
       (call .steps)
-      (step-list (call .steps) (passed .steps) .rises)
+      (rising-not-falling 0 (call .steps) (step-list (call .steps) (passed .steps) .rises))
 
   module _ (p : ℕ) (below : p < pixels (call .grid)) where
     abbrev rs : List ℕ
