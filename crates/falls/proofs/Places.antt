@@ -11,7 +11,7 @@ use lib.ListN.{length, getD, length-map, List·getD-map}
 use borrow.Author.Tests.{le-leb, lt-leb}
 use Rattle.sets.specs.Sets.{Positions}
 use Rattle.opening.specs.Opening.{Keeps, at-least}
-use Rattle.opening.specs.Residue.{rising, threshold-tests}
+use Rattle.opening.specs.Residue.{not-falling, threshold-tests}
 use Rattle.opening.proofs.Residue.{threshold-tests-narrow}
 use Rattle.falls.specs.Falls.{outlasted, places-before}
 use Rattle.falls.proofs.Outlasted.{outlasted-le, outlasted-before, outlasted-past}
@@ -45,8 +45,8 @@ module _ (a : ℕ) (steps : List ℕ) where
   places-above i l =
       omega (arith, outlast, outlasted-before some (threshold-tests same steps) (at-least same 0) i (test-at i ∙ lt-leb (getD steps i 0) a l))
 
-  -- a threshold of a rising list that is at most a is among them
-  pub places-past : rising 0 steps ≡ true → (i : ℕ) → i < length steps → getD steps i 0 ≤ a → i < places-before a steps
+  -- a threshold of a list that does not fall is among them if it is at most a
+  pub places-past : not-falling 0 steps ≡ true → (i : ℕ) → i < length steps → getD steps i 0 ≤ a → i < places-before a steps
   places-past up i b l =
       let narrow = threshold-tests-narrow 0 same (λ s t inside. le-refl a) 0 steps up in
       omega (

@@ -18,7 +18,7 @@ module _ {n : ℕ} {ws ws' : List ℕ} (kept : Kept n ws ws') where
   pub kept-up : (k : ℕ) → k < n → up-of n ws' k ≡ up-of n ws k
   kept-up k b = kept .middle (3 * n + 3 * k + 1) (omega arith) (omega arith)
 
-  pub kept-held : (k : ℕ) → k < n → held-of n ws' k ≡ held-of n ws k
+  kept-held : (k : ℕ) → k < n → held-of n ws' k ≡ held-of n ws k
   kept-held k b = kept .middle (3 * n + 3 * k + 2) (omega arith) (omega arith)
 
   pub kept-closed : (i : ℕ) → i < n → closed-of n ws' i ≡ closed-of n ws i

@@ -3,42 +3,41 @@ use Prim.Native.Nat.{ℕ, _≤_, _<_}
 use mathlib.Core.List.{List}
 use mathlib.Core.Path.{_≡_, refl, subst, _∙_}
 use native.Mathlib.Omega.{arith}
-use lib.ListN.{length, length-map}
-use Rattle.sets.specs.Sets.{Positions}
-use Rattle.sets.proofs.Laws.{table-at}
-use Rattle.opening.specs.Opening.{least-grey, Increasing, at-least}
-use Rattle.opening.specs.Residue.{threshold-tests, residue-by, index-by}
-use Rattle.opening.proofs.Residue.{threshold-tests-narrow}
+use lib.ListN.{length}
+use Rattle.sets.specs.Sets.{member}
+use Rattle.opening.specs.Opening.{least-grey, Keeps}
+use Rattle.opening.specs.Node.{node}
+use Rattle.opening.specs.Residue.{Narrowing}
 use Rattle.grid.specs.Pixels.{pixels}
 use Rattle.grid.specs.Neighbours.{adjacent}
-use Rattle.grid.specs.Attributes.{attribute}
+use Rattle.grid.specs.Greys.{grey}
 use Rattle.grid.specs.declared.Grid.{Grid}
-use Rattle.grid.proofs.Attributes.{adjacent-symmetric, attribute-increasing}
+use Rattle.grid.proofs.Attributes.{adjacent-symmetric}
 use Rattle.grid.proofs.Whole.{grid-whole}
 use Rattle.tree.proofs.Together.{Together}
-use Rattle.causes.specs.Bounds.{most-pixels}
-use Rattle.calls.specs.Calls.{grey, residue-map, index-map}
-use Rattle.levels.specs.Workspace.{up-of}
+use Rattle.falls.specs.Falls.{outlasted}
+use Rattle.levels.specs.Workspace.{lowest-of, up-of}
 use Rattle.numbers.specs.Nodes.{NodesOf}
+use Rattle.places.specs.Places.{place-at}
 use Rattle.map_passes.specs.Settle.{run-at, pair-at}
-use Rattle.map_passes.specs.Passes.{Climbable, Given, place-at, Settled, Settled-from, pair-for, Right-pairs, Holdable, Paired}
+use Rattle.map_passes.specs.Passes.{Climbable, Given, fall-at, Settled, Settled-from, pair-for, Right-pairs, Holdable, Paired}
 use Rattle.map_passes.proofs.Climbing.{nodes-climbable}
 use Rattle.map_passes.proofs.Keeping.{kept-number}
 use Rattle.map_passes.proofs.Right.{places-right, pair-right}
 
-module _ {n nodes gap : ℕ} {steps ws ws' : List ℕ} (prog : Settled-from n nodes gap steps ws ws' 0) where
+module _ {n nodes gap count : ℕ} {ws ws' : List ℕ} (prog : Settled-from n nodes gap count ws ws' 0) where
   -- at the end every node is settled
   settled-all : {level : ℕ → ℕ} → Climbable n nodes level ws → (k : ℕ) → k < nodes
-      → Settled (length steps) gap (place-at n steps ws) level (up-of n ws) (run-at n ws') (pair-at n ws') k
+      → Settled count gap (fall-at n count ws) level (up-of n ws) (run-at n ws') (pair-at n ws') k
   settled-all {level} climb k b =
       let (j, l, e) = climb .order .place k b in
       subst
-      (Settled (length steps) gap (place-at n steps ws) level (up-of n ws) (run-at n ws') (pair-at n ws'))
+      (Settled count gap (fall-at n count ws) level (up-of n ws) (run-at n ws') (pair-at n ws'))
       e
       (prog .done level climb j (omega arith) l)
 
   -- the pass over the pixels finds the numbers as they were
-  passes-hold : Given n nodes gap steps ws → Holdable n ws' n
+  passes-hold : Given n nodes gap count ws → Holdable n ws' n
   passes-hold given = record {
     ws-size = prog .kept .words ∙ given .ws-size;
     pairs-size = refl;
@@ -47,45 +46,44 @@ module _ {n nodes gap : ℕ} {steps ws ws' : List ℕ} (prog : Settled-from n no
   }
 
 -- on a grid the pairs are right
-module _ (grid : Grid) (a : ℕ) (picture : List ℕ) (wide : 1 ≤ grid .width) (few : pixels grid ≤ most-pixels) {nodes gap : ℕ}
-    {steps ws ws' : List ℕ} (size : length picture ≡ pixels grid) (given : Given (length picture) nodes gap steps ws)
-    (prog : Settled-from (length picture) nodes gap steps ws ws' 0) (N : NodesOf grid a picture ws nodes) (bytes : (q : ℕ) → grey picture q < 256) where
-  pairs-right : Right-pairs grid a steps gap picture (pair-for (length picture) ws')
-  unfolding residue-map index-map
-  pairs-right q inside =
-      let attr : Positions → ℕ = attribute grid a in
+module _ (grid : Grid) (a : ℕ) (picture : List ℕ) (wide-grid : 1 ≤ grid .width) {nodes gap count : ℕ} {ws ws' : List ℕ}
+    (size : length picture ≡ pixels grid) (given : Given (length picture) nodes gap count ws)
+    (prog : Settled-from (length picture) nodes gap count ws ws' 0) (N : NodesOf grid a picture ws nodes) (bytes : (q : ℕ) → grey picture q < 256) where
+  pairs-right : (wide : Keeps) (tests : List Keeps) → Narrowing (pixels grid) wide tests → length tests ≡ count
+      → ((k : ℕ) → k < nodes
+      → place-at (length picture) ws k ≡ outlasted (member (node (pixels grid) (adjacent grid) (grey picture) (lowest-of (length picture) ws k))) tests)
+      → Right-pairs grid tests gap picture (pair-for (length picture) ws')
+  pairs-right wide tests narrow number outlasts q inside =
       let b : q < length picture = rw size inside in
-      let rise : Increasing (length picture) attr = rw size (attribute-increasing grid a few) in
+      let narrow-here : Narrowing (length picture) wide tests = rw size narrow in
       let whole : (p q : ℕ) → p < length picture → q < length picture
       → Together (length picture) (adjacent grid) (grey picture) (least-grey (length picture) (grey picture)) p q =
-      rw size (grid-whole grid wide (grey picture)) in
+      rw size (grid-whole grid wide-grid (grey picture)) in
+      let places =
+      places-right (adjacent-symmetric grid) N whole wide tests narrow-here (place-at (length picture) ws) (λ k l. rw (← size) at (outlasts k l)) in
       let right =
       pair-right
       (adjacent-symmetric grid)
       N
       whole
-      (at-least attr 0)
-      (threshold-tests attr steps)
-      (threshold-tests-narrow (length picture) attr rise 0 steps (given .rise))
-      (length-map steps (at-least attr))
+      wide
+      tests
+      narrow-here
+      number
       (given .few)
       (given .small-gap)
-      (places-right (adjacent-symmetric grid) N whole rise steps (given .rise))
+      (λ k l. rw (← number) (places k l))
       bytes
       (settled-all prog (nodes-climbable N bytes))
       q
       b in
-      let residue : ℕ → ℕ = residue-by (pixels grid) (adjacent grid) (threshold-tests attr steps) gap (grey picture) in
-      let index : ℕ → ℕ = index-by (pixels grid) (adjacent grid) (threshold-tests attr steps) gap (grey picture) in
-      rw
-      (kept-number (prog .kept) q b, table-at (pixels grid) residue q 0 inside, table-at (pixels grid) index q 0 inside, ← size)
-      right
+      rw (kept-number (prog .kept) q b, ← size) right
 
 -- what the pass over the nodes leaves
-pub pairs-settled : {gap nodes : ℕ} {picture steps ws ws' : List ℕ} → Given (length picture) nodes gap steps ws
-    → Settled-from (length picture) nodes gap steps ws ws' 0 → ((q : ℕ) → grey picture q < 256) → Paired picture steps gap nodes ws ws'
+pub pairs-settled : {gap nodes count : ℕ} {picture ws ws' : List ℕ} → Given (length picture) nodes gap count ws
+    → Settled-from (length picture) nodes gap count ws ws' 0 → ((q : ℕ) → grey picture q < 256) → Paired picture count gap nodes ws ws'
 pairs-settled {picture = picture} given prog bytes = record {
   kept = prog .kept;
   holdable = passes-hold prog given;
-  right = λ grid a wide few size N. pairs-right grid a picture wide few size given prog N bytes;
+  right = λ grid a wide size N. pairs-right grid a picture wide size given prog N bytes;
 }

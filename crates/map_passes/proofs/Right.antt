@@ -8,27 +8,24 @@ use mathlib.Core.Path.{_≡_, refl, sym, ap, _∙_}
 use native.Mathlib.Nat.{le-refl}
 use native.Mathlib.Numerals.{add-one}
 use native.Mathlib.Omega.{arith}
-use lib.ListN.{length, length-map}
+use lib.ListN.{length}
 use borrow.Author.Tests.{eq-eqb, ne-eqb, le-leb, lt-leb}
 use Rattle.sets.specs.Sets.{Positions, member}
 use Rattle.sets.proofs.Tests.{le-or-lt}
 use Rattle.connected.specs.Component.{Adjacency, Symmetric}
-use Rattle.opening.specs.Opening.{least-grey, Keeps, Increasing, at-least}
+use Rattle.opening.specs.Opening.{least-grey, Keeps}
 use Rattle.opening.specs.Node.{node}
-use Rattle.opening.specs.Residue.{rising, threshold-tests, Narrowing, residue-by, index-by}
-use Rattle.opening.proofs.Residue.{threshold-tests-narrow}
+use Rattle.opening.specs.Residue.{Narrowing, residue-by, index-by}
 use Rattle.tree.specs.Tree.{representative}
 use Rattle.tree.proofs.Together.{Together}
 use Rattle.tree.proofs.Representatives.{representative-in, representative-grey}
 use Rattle.tree.proofs.Parents.{Over, Parent}
 use Rattle.numbers.specs.Nodes.{Nodes}
-use Rattle.falls.specs.Falls.{fall-place, joins, run-end, run-sum}
+use Rattle.falls.specs.Falls.{outlasted, fall-place, joins, run-end, run-sum}
 use Rattle.falls.proofs.Joined.{joins-yes, joins-never, joins-far, joins-true}
-use Rattle.falls.proofs.Places.{places-outlasted}
 use Rattle.falls.proofs.Nodes.{place-le, place-root, place-node, never-falls, run-end-parent, run-sum-parent, residue-parent, index-parent, residue-own, index-own}
 use Rattle.causes.specs.Bounds.{most-steps, most-gap}
-use Rattle.places.specs.Places.{place-of}
-use Rattle.map_passes.specs.Settle.{end-in, total-in, index-in, place-in, own-in, never, near, own-of, run-of, pair-of}
+use Rattle.map_passes.specs.Settle.{end-in, total-in, index-in, place-in, own-in, never, place-of, near, own-of, run-of, pair-of}
 use Rattle.map_passes.specs.Passes.{Settled}
 use Rattle.map_passes.proofs.Settling.{read-chosen, run-never, run-falls, pair-never, pair-falls, own-end, own-total, run-place-in, run-own-in, pair-residue, pair-index}
 use Rattle.map_passes.proofs.Climbing.{nodes-up}
@@ -62,26 +59,22 @@ near-is gap k m place run early few small-gap past-all at =
 module _ {n nodes : ℕ} {adj : Adjacency} {attr : Positions → ℕ} {g num low up held closed drop : ℕ → ℕ} (symm : Symmetric adj)
     (N : Nodes n adj attr g num low up held closed drop nodes)
     (whole : (p q : ℕ) → p < n → q < n → Together n adj g (least-grey n g) p q) where
-  -- for the tests of thresholds the place that the words give is the one at which the node falls
-  pub places-right : Increasing n attr → (steps : List ℕ) → rising 0 steps ≡ true → (k : ℕ) → k < nodes
-      → place-of steps k (up k) (held k) ≡ fall-place n adj (threshold-tests attr steps) g (low k)
+  -- if each place word is how many tests the node outlasts, the place that the words give is the one at which the node falls
+  pub places-right : (wide : Keeps) (tests : List Keeps) → Narrowing n wide tests → (word : ℕ → ℕ)
+      → ((k : ℕ) → k < nodes → word k ≡ outlasted (member (node n adj g (low k))) tests) → (k : ℕ) → k < nodes
+      → place-of (length tests) k (up k) (word k) ≡ fall-place n adj tests g (low k)
   unfolding place-of
-  places-right rise steps rises k b =
+  places-right wide tests narrow word outlasts k b =
       let q : ℕ = low k in
-      let tests : List Keeps = threshold-tests attr steps in
-      let narrow : Narrowing n (at-least attr 0) tests = threshold-tests-narrow n attr rise 0 steps rises in
       ⊎-elim
       (λ (w : Parent n adj g q (low (up k))).
       rw
-      (ne-eqb (up k) k (λ e. omega (arith, w .darker, ap g (ap low e))), N .attributes k b)
-      (sym
-      (place-node n adj symm g (at-least attr 0) tests narrow whole q (low (up k)) w
-      ∙ places-outlasted attr (member (node n adj g q)) steps)))
+      (ne-eqb (up k) k (λ e. omega (arith, w .darker, ap g (ap low e))), outlasts k b)
+      (sym (place-node n adj symm g wide tests narrow whole q (low (up k)) w)))
       (λ root.
       rw
       (eq-eqb (up k) k (sym (N .low-own (up k) (N .ups k b)) ∙ ap num (root .1) ∙ N .low-own k b))
-      (sym
-      (place-root n adj symm g (at-least attr 0) tests narrow whole q (N .low-within k b) (root .0) ∙ length-map steps (at-least attr))))
+      (sym (place-root n adj symm g wide tests narrow whole q (N .low-within k b) (root .0))))
       (nodes-up symm N k b)
 
   module _ {m gap : ℕ} {place run pair : ℕ → ℕ} (wide : Keeps) (tests : List Keeps) (narrow : Narrowing n wide tests)

@@ -1,26 +1,28 @@
 -- The turns of the pass over the nodes on the words of the workspace: a turn stores the two words of a node, and so the next goes by the
--- same words.
-use Prim.Native.Nat.{ℕ, _-_, _*_, _≤_, _<_}
+-- same words. A node's place word is stored over only in its own turn, since each number stands once in the order of closing.
+use Prim.Native.Nat.{ℕ, _+_, _-_, _*_, _≤_, _<_}
 use mathlib.Core.List.{List}
 use mathlib.Core.Path.{_≡_, refl, _∙_}
+use native.Mathlib.Nat.{le-refl}
 use native.Mathlib.Omega.{arith}
 use lib.ListN.{length}
+use borrow.Author.Tests.{eq-eqb}
 use Rattle.causes.specs.Bounds.{words-a-pixel}
 use Rattle.levels.specs.Workspace.{closed-of, drop-of, up-of}
-use Rattle.places.proofs.Places.{place-of-root}
-use Rattle.map_passes.specs.Settle.{never, run-word, pair-word, run-at, pair-at, stored, Settleable, settled-at}
-use Rattle.map_passes.specs.Passes.{Climbable, Given, place-at, Visitable, visited-at, Settled, Kept, Settled-from}
-use Rattle.map_passes.proofs.Keeping.{kept-up, kept-held, kept-closed, kept-drop}
+use Rattle.places.specs.Places.{place-at}
+use Rattle.map_passes.specs.Settle.{never, place-of, run-word, pair-word, run-at, pair-at, stored, Settleable, settled-at}
+use Rattle.map_passes.specs.Passes.{Climbable, Given, fall-at, Visitable, visited-at, Settled, Kept, Settled-from}
+use Rattle.map_passes.proofs.Keeping.{kept-up, kept-closed, kept-drop}
 use Rattle.map_passes.proofs.Settling.{run-never, run-falls, pair-never, pair-falls, stored-length, stored-other, stored-run, stored-pair}
 use Rattle.map_passes.proofs.Turns.{turn-drop, turn-byte, turn-settles}
 
--- the node closed at place i; its place is what the search for the step answers
-module _ {n gap : ℕ} {steps ws : List ℕ} {i : ℕ} (turn : Visitable n gap steps ws i) where
+-- the node closed at place i; its place is what its words say
+module _ {n gap count : ℕ} {ws : List ℕ} {i : ℕ} (turn : Visitable n gap count ws i) where
   abbrev k : ℕ
   k = closed-of n ws i
 
-  module _ {place : ℕ} (found : place ≡ place-at n steps ws k) where
-    pub visit-ready : place < length steps → Settleable gap place (drop-of n ws i) n k (up-of n ws k) ws
+  module _ {place : ℕ} (found : place ≡ fall-at n count ws k) where
+    pub visit-ready : place < count → Settleable gap place (drop-of n ws i) n k (up-of n ws k) ws
     visit-ready l = record {
       few = omega (arith, turn .few);
       small-gap = turn .small-gap;
@@ -30,16 +32,16 @@ module _ {n gap : ℕ} {steps ws : List ℕ} {i : ℕ} (turn : Visitable n gap s
       byte = turn .byte (rw (← found) l);
     }
 
-    pub visit-never : {left : List ℕ} → length steps ≤ place → left ≡ stored n k never 0 ws → left ≡ visited-at n gap steps ws i
+    pub visit-never : {left : List ℕ} → count ≤ place → left ≡ stored n k never 0 ws → left ≡ visited-at n gap count ws i
     visit-never l is =
-        let past : length steps ≤ place-at n steps ws k = rw (← found) l in
+        let past : count ≤ fall-at n count ws k = rw (← found) l in
         is ∙ rw (run-never _ _ _ _ _ past, pair-never _ _ _ _ _ _ past) refl
 
-    pub visit-settles : {left : List ℕ} → place < length steps → left ≡ settled-at gap place (drop-of n ws i) n k (up-of n ws k) ws
-        → left ≡ visited-at n gap steps ws i
+    pub visit-settles : {left : List ℕ} → place < count → left ≡ settled-at gap place (drop-of n ws i) n k (up-of n ws k) ws
+        → left ≡ visited-at n gap count ws i
     unfolding settled-at
     visit-settles l is =
-        let falls : place-at n steps ws k < length steps = rw (← found) l in
+        let falls : fall-at n count ws k < count = rw (← found) l in
         is ∙ rw (run-falls _ _ _ _ _ falls, pair-falls _ _ _ _ _ _ falls, found) refl
 
 -- a turn keeps the other words
@@ -51,15 +53,16 @@ kept-stored n ws ws' kept k run pair b = record {
 }
 
 -- at the start no node is settled
-pub visit-start : {n nodes gap : ℕ} {steps ws : List ℕ} → Settled-from n nodes gap steps ws ws nodes
+pub visit-start : {n nodes gap count : ℕ} {ws : List ℕ} → Settled-from n nodes gap count ws ws nodes
 visit-start = record {
   kept = record { words = refl; front = λ x l. refl; middle = λ x l h. refl };
+  places = λ j l. refl;
   done = λ level climb j late l. absurd (omega arith);
 }
 
 -- the turn before place h, after those from h on
-module _ {n nodes gap : ℕ} {steps ws ws' : List ℕ} {h : ℕ} (given : Given n nodes gap steps ws) (some : 0 < h) (most : h ≤ nodes)
-    (prog : Settled-from n nodes gap steps ws ws' h) where
+module _ {n nodes gap count : ℕ} {ws ws' : List ℕ} {h : ℕ} (given : Given n nodes gap count ws) (some : 0 < h) (most : h ≤ nodes)
+    (prog : Settled-from n nodes gap count ws ws' h) where
   abbrev i : ℕ
   i = h - 1
 
@@ -70,11 +73,12 @@ module _ {n nodes gap : ℕ} {steps ws ws' : List ℕ} {h : ℕ} (given : Given 
   b = omega arith
 
   done-later : (level : ℕ → ℕ) → Climbable n nodes level ws → (j : ℕ) → i < j → j < nodes
-      → Settled (length steps) gap (place-at n steps ws) level (up-of n ws) (run-at n ws') (pair-at n ws') (closed-of n ws j)
+      → Settled count gap (fall-at n count ws) level (up-of n ws) (run-at n ws') (pair-at n ws') (closed-of n ws j)
   done-later level climb j late l = prog .done level climb j (omega arith) l
 
-  never-root : (k : ℕ) → up-of n ws k ≡ k → length steps ≤ place-at n steps ws k
-  never-root k e = place-of-root steps k _ _ e
+  never-root : (k : ℕ) → up-of n ws k ≡ k → count ≤ fall-at n count ws k
+  unfolding place-of
+  never-root k e = rw (eq-eqb (up-of n ws k) k e) (le-refl count)
 
   inside : i < n
   inside = omega (arith, given .climb .few)
@@ -88,11 +92,24 @@ module _ {n nodes gap : ℕ} {steps ws ws' : List ℕ} {h : ℕ} (given : Given 
   size : length ws' ≡ words-a-pixel * n
   size = prog .kept .words ∙ given .ws-size
 
+  -- its place word is as it was
+  place-still : place-at n ws' node ≡ place-at n ws node
+  place-still = prog .places i (omega arith)
+
+  -- a node closed before it is another, so that its place word is not the one that is stored
+  before-within : (j : ℕ) → j < i → closed-of n ws j < n
+  before-within j l = omega (arith, given .climb .order .within j (omega arith), given .climb .few)
+
+  before-kept : (run pair j : ℕ) → j < i → place-at n (stored n node run pair ws') (closed-of n ws j) ≡ place-at n ws' (closed-of n ws j)
+  before-kept run pair j l =
+      stored-other n ws' node run pair (2 * n + closed-of n ws j)
+      (λ e. given .climb .order .once j i l b (omega arith))
+      (λ e. omega (arith, before-within j l))
+
   -- it asks of the words now what it asks of those at the start
-  pub visit-asked : Visitable n gap steps ws' i
+  pub visit-asked : Visitable n gap count ws' i
   visit-asked = record {
     few = given .few;
-    rise = given .rise;
     small-gap = given .small-gap;
     ws-size = size;
     place = inside;
@@ -106,28 +123,28 @@ module _ {n nodes gap : ℕ} {steps ws ws' : List ℕ} {h : ℕ} (given : Given 
           kept-closed (prog .kept) i inside,
           kept-drop (prog .kept) i inside,
           kept-up (prog .kept) node node-small,
-          kept-held (prog .kept) node node-small,
+          place-still,
           turn-drop (given .climb) (given .few) never-root b (done-later (given .level) (given .climb)),
         )
         (turn-byte (given .climb) (given .few) never-root b (done-later (given .level) (given .climb)));
   }
 
-  pub visit-more : {ws'' : List ℕ} → ws'' ≡ visited-at n gap steps ws' i → Settled-from n nodes gap steps ws ws'' i
+  pub visit-more : {ws'' : List ℕ} → ws'' ≡ visited-at n gap count ws' i → Settled-from n nodes gap count ws ws'' i
   visit-more {ws''} is =
       let k = prog .kept in
-      let m : ℕ = length steps in
-      let place : ℕ = place-at n steps ws node in
+      let place : ℕ = fall-at n count ws node in
       let up : ℕ = up-of n ws node in
       let now : ws''
       ≡ stored
       n
       node
-      (run-word m gap place (drop-of n ws i) (run-at n ws' up))
-      (pair-word m gap place (drop-of n ws i) (run-at n ws' up) (pair-at n ws' up))
+      (run-word count gap place (drop-of n ws i) (run-at n ws' up))
+      (pair-word count gap place (drop-of n ws i) (run-at n ws' up) (pair-at n ws' up))
       ws' =
-      is ∙ rw (kept-closed k i inside, kept-drop k i inside, kept-up k node node-small, kept-held k node node-small) refl in
+      is ∙ rw (kept-closed k i inside, kept-drop k i inside, kept-up k node node-small, place-still) refl in
       rw now (record {
         kept = kept-stored n ws ws' k node _ _ node-small;
+        places = λ j l. before-kept _ _ j l ∙ prog .places j (omega arith);
         done = λ level climb.
             let done = done-later level climb in
             let drop = turn-drop climb (given .few) never-root b done in

@@ -7,7 +7,7 @@ use Prim.Native.Nat.{ℕ, _+_, _*_, _/_, _%_, _≤_, _<_}
 use mathlib.Core.Bool.{Bool, cond}
 use mathlib.Core.List.{List}
 use mathlib.Core.Path.{_≡_}
-use lib.Dec.{leb, ltb}
+use lib.Dec.{eqb, leb, ltb}
 use lib.ListN.{length, getD, set}
 use Rattle.causes.specs.Bounds.{words-a-pixel, most-steps, most-gap}
 
@@ -31,6 +31,10 @@ own-in run = run % 65536
 -- the run word of a node that never falls
 abbrev pub never : ℕ
 never = 33554432
+
+-- the place at which the node of number r falls, of m steps: its place word, or m if it is the root, its own parent, which never falls
+unfoldable pub place-of : ℕ → ℕ → ℕ → ℕ → ℕ
+place-of m r parent word = cond (eqb parent r) m word
 
 -- whether a node that falls at place k shares its parent's run: the parent falls at most the gap later
 unfoldable pub near : ℕ → ℕ → ℕ → Bool

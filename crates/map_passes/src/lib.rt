@@ -1,19 +1,18 @@
 // The passes that give the maps of a picture: one over its nodes, from the last closed to the first and so from parents to children, which
 // settles each node from its parent; one over the pixels, which holds the pair of each pixel's node in the index map; and, when the picture
 // is needed no more, one that makes both maps of the pairs. A pair stands for a run of residues: end × 256 + total, where end is the place
-// of its last residue. What a node holds stands in two words by its number: in part 3 its run word, place × 65536 + the pair of the run of
-// its own fall; in part 7 the pair of the run of largest total, 0 where no residue is. As there are at most 256 steps and greys, a pair has
-// 16 bits; a node that never falls has 512 for its place, beyond every step and gap. The time grows with the number of steps only by the
-// search for the steps at which nodes fall, and not with the gap.
+// of its last residue. What a node holds stands in two words by its number: in part 3 its place word, how many steps it outlasts, until the
+// node is settled, and then its run word, place × 65536 + the pair of the run of its own fall; in part 7 the pair of the run of largest total,
+// 0 where no residue is. As there are at most 256 steps and greys, a pair has 16 bits; a node that never falls has 512 for its place, beyond
+// every step and gap. The time grows neither with the number of steps nor with the gap.
 ghost use mathlib.Core.Path.{_≡_};
 ghost use mathlib.Core.Bool.{cond};
 ghost use Prim.Native.Nat.{ℕ, _≤_, _<_};
 ghost use lib.Dec.{ltb};
 ghost use lib.ListN.{length, getD};
 ghost use Rattle.sets.specs.Sets.{table};
-ghost use Rattle.places.specs.Places.{small-places};
 ghost use Rattle.causes.specs.Bounds.{most-steps, most-gap};
-ghost use Rattle.map_passes.specs.Settle.{total-in, index-in, shared-pair, Storable, stored, Settleable, settled-at};
+ghost use Rattle.map_passes.specs.Settle.{total-in, index-in, place-of, shared-pair, Storable, stored, Settleable, settled-at};
 ghost use Rattle.map_passes.specs.Passes.{Given, Settled-from, Visitable, visited-at, pair-for, Paired, Holdable};
 
 // The run word of a node that never falls.
@@ -59,52 +58,50 @@ fn settle(gap: u32, place: u32, down: u32, n: usize, k: usize, up: usize, ws: &m
     store(n, k, place * 65536 + own, pair, ws);
 }
 
+// The place at which the node of number k falls: its place word, or `count`, the number of steps, if it is the root, which is its own parent
+// and never falls.
+fn place_of(count: u32, k: usize, up: usize, word: u32) -> u32
+    ensures { λ r. ⌜ r ≡ place-of count k up word ⌝ }
+{
+    if up == k { count } else { word }
+}
+
 // Settles the node at place i of the order of closing.
-fn visit(steps: &[u32], table: &[usize; 256], gap: u32, n: usize, i: usize, ws: &mut [u32])
-    requires { ⌜ Visitable n gap (now steps) (now ws) i ⌝ }
-    requires { ⌜ now table ≡ small-places (now steps) ⌝ }
-    ensures { λ _. ⌜ now (ws .exit) ≡ visited-at n gap (now (steps .entry)) (now (ws .entry)) i ⌝ }
+fn visit(count: u32, gap: u32, n: usize, i: usize, ws: &mut [u32])
+    requires { ⌜ Visitable n gap count (now ws) i ⌝ }
+    ensures { λ _. ⌜ now (ws .exit) ≡ visited-at n gap count (now (ws .entry)) i ⌝ }
 {
     let word = ws[n + i];
     let k = (word / 256) as usize;
     let down = word % 256;
     let up = ws[3 * n + 3 * k + 1] as usize;
-    let a = ws[3 * n + 3 * k + 2];
-    let place = places::place(steps, table, k, up, a);
-    if steps.len() <= place {
+    let place = place_of(count, k, up, ws[2 * n + k]);
+    if count <= place {
         store(n, k, NEVER, 0, ws);
         return;
     }
-    settle(gap, place as u32, down, n, k, up, ws);
+    settle(gap, place, down, n, k, up, ws);
 }
 
 // Every node, the last closed first.
-fn settle_nodes(
-    steps: &[u32],
-    table: &[usize; 256],
-    gap: u32,
-    n: usize,
-    nodes: usize,
-    ws: &mut [u32],
-)
-    requires { ⌜ Given n nodes gap (now steps) (now ws) ⌝ }
-    requires { ⌜ now table ≡ small-places (now steps) ⌝ }
-    ensures { λ _. ⌜ Settled-from n nodes gap (now (steps .entry)) (now (ws .entry)) (now (ws .exit)) 0 ⌝ }
+fn settle_nodes(count: u32, gap: u32, n: usize, nodes: usize, ws: &mut [u32])
+    requires { ⌜ Given n nodes gap count (now ws) ⌝ }
+    ensures { λ _. ⌜ Settled-from n nodes gap count (now (ws .entry)) (now (ws .exit)) 0 ⌝ }
 {
     let mut i = nodes;
     while i > 0 {
         i -= 1;
-        visit(steps, table, gap, n, i, ws);
+        visit(count, gap, n, i, ws);
     }
 }
 
-// The pair of every node, from the words of the nodes. Parts 3 and 7 are free for the pass over them.
-pub fn settle_pairs(picture: &[u8], steps: &[u32], gap: u32, nodes: usize, ws: &mut [u32])
-    requires { ⌜ Given (length (now picture)) nodes gap (now steps) (now ws) ⌝ }
-    ensures { λ _. ⌜ Paired (now (picture .entry)) (now (steps .entry)) gap nodes (now (ws .entry)) (now (ws .exit)) ⌝ }
+// The pair of every node, from the words of the nodes, their place words among `count` steps too. Part 7 is free for the pass over them, and
+// run words come to stand where the place words were.
+pub fn settle_pairs(picture: &[u8], count: u32, gap: u32, nodes: usize, ws: &mut [u32])
+    requires { ⌜ Given (length (now picture)) nodes gap count (now ws) ⌝ }
+    ensures { λ _. ⌜ Paired (now (picture .entry)) count gap nodes (now (ws .entry)) (now (ws .exit)) ⌝ }
 {
-    let table = places::small_places(steps);
-    settle_nodes(steps, &table, gap, picture.len(), nodes, ws);
+    settle_nodes(count, gap, picture.len(), nodes, ws);
 }
 
 // Every pixel takes the pair of its node.

@@ -1,5 +1,6 @@
 -- Residues: each opening by tests that get narrower is at most the one before, so that every residue is a true difference and they add up
--- to the grey less the last opening. The tests of thresholds that rise get narrower. What the largest residue and its place are is determined.
+-- to the grey less the last opening. The tests of thresholds that do not fall get narrower. What the largest residue and its place are is
+-- determined.
 use Prim.Native.Nat.{ℕ, zero, suc, _+_, _≤_, _<_}
 use mathlib.Core.Bool.{true}
 use mathlib.Core.List.{List, [], _∷_}
@@ -7,12 +8,12 @@ use mathlib.Core.Path.{_≡_, refl}
 use native.Mathlib.Omega.{arith}
 use lib.Dec.{leb, ltb, eqb}
 use lib.ListN.{length, getD}
-use borrow.Author.Tests.{leb-true, leb-false, ltb-true, eqb-true, eqb-false, ne-eqb}
+use borrow.Author.Tests.{le-leb, leb-true, leb-false, ltb-true, eqb-true, eqb-false, ne-eqb}
 use Rattle.sets.specs.Sets.{Positions}
 use Rattle.sets.proofs.Tests.{and-left, and-right}
 use Rattle.connected.specs.Component.{Adjacency}
 use Rattle.opening.specs.Opening.{Keeps, Upward, Increasing, at-least, opened-by}
-use Rattle.opening.specs.Residue.{falls-from, total, last-of, largest, last-place, largest-place, rising, threshold-tests, Narrowing, openings-by}
+use Rattle.opening.specs.Residue.{falls-from, total, last-of, largest, last-place, largest-place, rising, not-falling, threshold-tests, Narrowing, openings-by}
 use Rattle.opening.proofs.Levels.{cond-case}
 use Rattle.opening.proofs.Opened.{opened-le, opened-mono}
 use Rattle.opening.proofs.Threshold.{at-least-up, at-least-less}
@@ -36,16 +37,24 @@ unfolding falls-from total last-of
 falls-total grey [] f = omega arith
 falls-total grey (next ∷ rest) f = omega (arith, f .0, falls-total next rest (f .1))
 
--- thresholds that rise give tests that get narrower
-pub threshold-tests-narrow : (n : ℕ) (attr : Positions → ℕ) → Increasing n attr → (low : ℕ) (steps : List ℕ) → rising low steps ≡ true
+-- thresholds that rise do not fall
+pub rising-not-falling : (low : ℕ) (steps : List ℕ) → rising low steps ≡ true → not-falling low steps ≡ true
+unfolding rising not-falling
+rising-not-falling low [] up = refl
+rising-not-falling low (t ∷ rest) up =
+    let above : low < t = ltb-true low t (and-left (ltb low t) (rising t rest) up) in
+    rw (le-leb low t (omega arith)) (rising-not-falling t rest (and-right (ltb low t) (rising t rest) up))
+
+-- thresholds that do not fall give tests that get narrower
+pub threshold-tests-narrow : (n : ℕ) (attr : Positions → ℕ) → Increasing n attr → (low : ℕ) (steps : List ℕ) → not-falling low steps ≡ true
     → Narrowing n (at-least attr low) (threshold-tests attr steps)
-unfolding rising
+unfolding not-falling
 threshold-tests-narrow n attr rise low [] up = tt
 threshold-tests-narrow n attr rise low (t ∷ rest) up =
-    let above : low < t = ltb-true low t (and-left (ltb low t) (rising t rest) up) in (
+    let above : low ≤ t = leb-true low t (and-left (leb low t) (not-falling t rest) up) in (
       at-least-up n attr rise t,
-      at-least-less attr low t (omega arith),
-      threshold-tests-narrow n attr rise t rest (and-right (ltb low t) (rising t rest) up),
+      at-least-less attr low t above,
+      threshold-tests-narrow n attr rise t rest (and-right (leb low t) (not-falling t rest) up),
     )
 
 module _ (n : ℕ) (adj : Adjacency) (g : ℕ → ℕ) (p : ℕ) (below : p < n) where

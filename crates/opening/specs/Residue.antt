@@ -59,6 +59,11 @@ unfoldable pub rising : ℕ → List ℕ → Bool
 rising low [] = true
 rising low (t ∷ rest) = ltb low t && rising t rest
 
+-- thresholds that do not fall, the first at least low
+unfoldable pub not-falling : ℕ → List ℕ → Bool
+not-falling low [] = true
+not-falling low (t ∷ rest) = leb low t && not-falling t rest
+
 -- the tests of a list of thresholds
 abbrev pub threshold-tests : (Positions → ℕ) → List ℕ → List Keeps
 threshold-tests attr steps = map (at-least attr) steps

@@ -17,7 +17,7 @@ use Rattle.opening.specs.Node.{node}
 use Rattle.opening.specs.Residue.{rising, joined, threshold-tests, Narrowing, residues, residue-by}
 use Rattle.opening.specs.Runs.{Run, run-total}
 use Rattle.opening.proofs.Levels.{cond-case, least-grey-le}
-use Rattle.opening.proofs.Residue.{threshold-tests-narrow, largest-bound}
+use Rattle.opening.proofs.Residue.{rising-not-falling, threshold-tests-narrow, largest-bound}
 use Rattle.opening.proofs.Runs.{in-a-run, run-once}
 use Rattle.opening.proofs.RunLaws.{joined-run, run-ends, run-joined}
 use Rattle.tree.specs.Tree.{parent-representative}
@@ -119,7 +119,7 @@ module _ (n : ℕ) (adj : Adjacency) (symm : Symmetric adj) (attr : Positions �
     tests = threshold-tests attr (counting 1 m)
 
     narrow : Narrowing n (at-least attr 0) tests
-    narrow = threshold-tests-narrow n attr rise 0 (counting 1 m) (rising-counting 0 1 m (omega arith))
+    narrow = threshold-tests-narrow n attr rise 0 (counting 1 m) (rising-not-falling 0 (counting 1 m) (rising-counting 0 1 m (omega arith)))
 
     number : length tests ≡ m
     number = length-map (counting 1 m) (at-least attr) ∙ length-counting 1 m

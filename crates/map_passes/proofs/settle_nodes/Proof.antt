@@ -10,10 +10,10 @@ use Rattle.map_passes.proofs.settle_nodes.Statement.{statement}
 use Rattle.map_passes.proofs.settle_nodes.Tie as tie
 
 abbrev Inv-loop : tie.InvT-loop
-Inv-loop steps table gap n nodes ws₀ i₀ ws i = (i ≤ nodes) × Settled-from n nodes gap steps ws₀ ws i
+Inv-loop count gap n nodes ws₀ i₀ ws i = (i ≤ nodes) × Settled-from n nodes gap count ws₀ ws i
 
 abbrev μ-loop : tie.MeasureT-loop
-μ-loop steps table gap n nodes ws₀ i₀ ws i = i
+μ-loop count gap n nodes ws₀ i₀ ws i = i
 
 loop-holds : tie.Need-loop-holds Inv-loop μ-loop
 loop-holds c = (omega arith, visit-start)
@@ -24,14 +24,8 @@ sub-i c = search needs
 visit-requires : tie.Need-visit-requires Inv-loop μ-loop
 visit-requires c κs =
     let at-loop = c .before .before in
-    let start = at-loop .before .before .before in (
-      visit-asked
-          (start .pre .0)
-          (c .before .loop-test .taken)
-          (at-loop .loop .inv .0)
-          (at-loop .loop .inv .1),
-      start .pre .1,
-    )
+    let start = at-loop .before .before in
+    visit-asked (start .pre) (c .before .loop-test .taken) (at-loop .loop .inv .0) (at-loop .loop .inv .1)
 
 loop-less : tie.Need-loop-less Inv-loop μ-loop
 loop-less c = omega arith
@@ -39,10 +33,10 @@ loop-less c = omega arith
 loop-again : tie.Need-loop-again Inv-loop μ-loop
 loop-again c =
     let at-loop = c .before .before .before .before .before in
-    let start = at-loop .before .before .before in (
+    let start = at-loop .before .before in (
       omega arith,
       visit-more
-          (start .pre .0)
+          (start .pre)
           (c .before .before .before .before .loop-test .taken)
           (at-loop .loop .inv .0)
           (at-loop .loop .inv .1)

@@ -37,26 +37,20 @@ slice-read-up c = search needs
 cast-up : tie.Need-cast-up
 cast-up c = search needs
 
-mul-a : tie.Need-mul-a
-mul-a c = search needs
+mul-place-of : tie.Need-mul-place-of
+mul-place-of c = search needs
 
-mul-a-2 : tie.Need-mul-a-2
-mul-a-2 c = search needs
+add-place-of : tie.Need-add-place-of
+add-place-of c = search needs
 
-add-a : tie.Need-add-a
-add-a c = search needs
+mul-place-of-2 : tie.Need-mul-place-of-2
+mul-place-of-2 c = search needs
 
-add-a-2 : tie.Need-add-a-2
-add-a-2 c = search needs
+slice-read-place-of : tie.Need-slice-read-place-of
+slice-read-place-of c = search needs
 
-mul-a-3 : tie.Need-mul-a-3
-mul-a-3 c = search needs
-
-slice-read-a : tie.Need-slice-read-a
-slice-read-a c = search needs
-
-place-requires : tie.Need-place-requires
-place-requires c κs = search needs
+place-of-requires : tie.Need-place-of-requires
+place-of-requires c κs = search needs
 
 store-requires : tie.Need-store-requires
 store-requires c κs = search needs
@@ -68,17 +62,14 @@ returns : tie.Need-returns
 returns c =
     let never = c .before .before .before .before in
     let placed = never .before in
-    let start = placed .before .before .before .before .before .before in
-    visit-never (start .pre .0) (placed .place .ensures) (never .if1 .taken) (c .before .before .store .ensures)
-
-cast-settle : tie.Need-cast-settle
-cast-settle c = search needs
+    let start = placed .before .before .before .before .before in
+    visit-never (start .pre) (placed .place-of .ensures) (never .if1 .taken) (c .before .before .store .ensures)
 
 settle-requires : tie.Need-settle-requires
 settle-requires c κs =
     let placed = c .before .before in
-    let start = placed .before .before .before .before .before .before in
-    visit-ready (start .pre .0) (placed .place .ensures) (c .before .if1 .left)
+    let start = placed .before .before .before .before .before in
+    visit-ready (start .pre) (placed .place-of .ensures) (c .before .if1 .left)
 
 same-length-2 : tie.Need-same-length-2
 same-length-2 c = search needs
@@ -87,8 +78,8 @@ returns-2 : tie.Need-returns-2
 returns-2 c =
     let falls = c .before .before .before .before in
     let placed = falls .before in
-    let start = placed .before .before .before .before .before .before in
-    visit-settles (start .pre .0) (placed .place .ensures) (falls .if1 .left) (c .before .before .settle .ensures)
+    let start = placed .before .before .before .before .before in
+    visit-settles (start .pre) (placed .place-of .ensures) (falls .if1 .left) (c .before .before .settle .ensures)
 
 pub visit-spec : {M : Type 1} → statement M
 visit-spec =
@@ -105,17 +96,14 @@ visit-spec =
     mul-up-3
     slice-read-up
     cast-up
-    mul-a
-    mul-a-2
-    add-a
-    add-a-2
-    mul-a-3
-    slice-read-a
-    place-requires
+    mul-place-of
+    add-place-of
+    mul-place-of-2
+    slice-read-place-of
+    place-of-requires
     store-requires
     same-length
     returns
-    cast-settle
     settle-requires
     same-length-2
     returns-2)
