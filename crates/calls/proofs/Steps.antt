@@ -16,7 +16,7 @@ use Rattle.causes.specs.Bounds.{most-pixels, top-threshold, most-steps}
 use Rattle.opening.specs.Opening.{Keeps, Upward, Needs-pixel, at-least}
 use Rattle.opening.specs.Residue.{rising, threshold-tests, Narrowing}
 use Rattle.opening.proofs.Threshold.{at-least-up}
-use Rattle.opening.proofs.Residue.{threshold-tests-narrow}
+use Rattle.opening.proofs.Residue.{rising-not-falling, threshold-tests-narrow}
 use Rattle.grid.specs.Pixels.{pixels}
 use Rattle.grid.specs.Attributes.{touches-frame, attribute}
 use Rattle.grid.specs.Triples.{triple-of, meets, zeros, need}
@@ -170,7 +170,8 @@ module _ (grid : Grid) where
   unfolding list-tests
   list-narrow few (Thresholds a) steps good =
       from-everything (pixels grid) (at-least (attribute grid a) 0) (threshold-tests (attribute grid a) steps)
-      (threshold-tests-narrow (pixels grid) (attribute grid a) (attribute-increasing grid a few) 0 steps (step-list steps good .rises))
+      (threshold-tests-narrow (pixels grid) (attribute grid a) (attribute-increasing grid a few) 0 steps
+      (rising-not-falling 0 steps (step-list steps good .rises)))
   list-narrow few Triples steps good =
       from-everything (pixels grid) (meets grid zeros) (map (meets grid) (triples-in steps))
       (triples-narrow grid few zeros (triples-in steps) (triple-list steps good .rises))

@@ -4,8 +4,8 @@ use Prim.Native.Nat.{ℕ, _+_, _-_, _≤_, _<_}
 use mathlib.Core.List.{List, _++_, append-assoc, append-nil}
 use mathlib.Core.Path.{_≡_, refl, sym, ap, _∙_}
 use native.Mathlib.Omega.{arith}
-use lib.ListN.{getD, length, set, take, drop, replicate, length-set, length-append, length-replicate, length-drop, replicate-append-replicate, drop-of-length-le}
-use lib.Seq.{getD-set-same, getD-set-other, length-take-le, getD-take, getD-drop, take-add, take-take, take-at, drop-drop, drop-append-add, take-set-lt, take-set-le, drop-set-lt, drop-set-add}
+use lib.ListN.{getD, length, set, take, drop, replicate, List·getD-append, getD-replicate, length-set, length-append, length-replicate, length-drop, replicate-append-replicate, drop-of-length-le}
+use lib.Seq.{getD-append-add, getD-set-same, getD-set-other, length-take-le, getD-take, getD-drop, take-add, take-take, take-at, drop-drop, drop-append-add, take-set-lt, take-set-le, drop-set-lt, drop-set-add}
 use borrow.Rule.Slice.PartMut.{midOf, putMid, mid-len, post-is, set-mid-at}
 use Rattle.parts.specs.Parts.{filled}
 
@@ -47,6 +47,26 @@ module _ (a e v : ℕ) (xs : List ℕ) (low : a ≤ e) (high : e ≤ length xs) 
   pub filled-long : length (filled a e v xs) ≡ length xs
   filled-long =
       simp (length-append, length-replicate, length-drop) (omega (arith, front))
+
+  -- what it holds before the part, in it and after it
+  pub filled-before : (x : ℕ) → x < a → getD (filled a e v xs) x 0 ≡ getD xs x 0
+  filled-before x l = List·getD-append (take a xs) _ 0 x (rw front l) ∙ getD-take a xs x 0 l
+
+  pub filled-inside : (x : ℕ) → a + x < e → getD (filled a e v xs) (a + x) 0 ≡ v
+  filled-inside x l =
+      let here : x < e - a = omega arith in
+      ap (λ (k : ℕ). getD (filled a e v xs) (k + x) 0) (sym front)
+      ∙ getD-append-add (take a xs) _ x 0
+      ∙ List·getD-append (replicate (e - a) v) _ 0 x (rw (length-replicate (e - a) v) here)
+      ∙ getD-replicate (e - a) x v 0 here
+
+  pub filled-after : (x : ℕ) → getD (filled a e v xs) (e + x) 0 ≡ getD xs (e + x) 0
+  filled-after x =
+      let whole : e + x ≡ length (take a xs) + (length (replicate (e - a) v) + x) = omega (arith, front, length-replicate (e - a) v) in
+      ap (λ (k : ℕ). getD (filled a e v xs) k 0) whole
+      ∙ getD-append-add (take a xs) _ (length (replicate (e - a) v) + x) 0
+      ∙ getD-append-add (replicate (e - a) v) _ x 0
+      ∙ getD-drop e xs x 0
 
 -- a part filled from its entry k on
 pub rest-filled : (a e k v : ℕ) (xs : List ℕ) → a + k ≤ e → e ≤ length xs → {part : List ℕ} → part ≡ take k (lent a e xs) ++ replicate (length (lent a e xs) - k) v → returned a e xs part ≡ filled (a + k) e v xs

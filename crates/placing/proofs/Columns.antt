@@ -35,44 +35,44 @@ abbrev pub width-in : Triple → ℕ
 width-in t = t .width
 
 -- triple i has the words from 3i on
-triple-at : (words : List ℕ) (i : ℕ) → i < length words / 3
-    → getD (triples-in words) i zeros ≡ triple-of (getD words (3 * i) 0) (getD words (3 * i + 1) 0) (getD words (3 * i + 2) 0)
+triple-at : (words : List ℕ) (i j : ℕ) → j ≡ 3 * i → i < length words / 3
+    → getD (triples-in words) i zeros ≡ triple-of (getD words j 0) (getD words (suc j) 0) (getD words (suc (suc j)) 0)
 unfolding triples-in
-triple-at [] i b = absurd (omega arith)
-triple-at (a ∷ []) i b = absurd (omega arith)
-triple-at (a ∷ h ∷ []) i b = absurd (omega arith)
-triple-at (a ∷ h ∷ w ∷ rest) zero b = refl
-triple-at (a ∷ h ∷ w ∷ rest) (suc i) b =
-    let first : 3 * suc i ≡ suc (suc (suc (3 * i))) = omega arith in
-    let second : 3 * suc i + 1 ≡ suc (suc (suc (3 * i + 1))) = omega arith in
-    let third : 3 * suc i + 2 ≡ suc (suc (suc (3 * i + 2))) = omega arith in
-    rw (first, second, third) (triple-at rest i (omega arith))
+triple-at [] i j is b = absurd (omega arith)
+triple-at (a ∷ []) i j is b = absurd (omega arith)
+triple-at (a ∷ h ∷ []) i j is b = absurd (omega arith)
+triple-at (a ∷ h ∷ w ∷ rest) zero zero is b = refl
+triple-at (a ∷ h ∷ w ∷ rest) zero (suc j) is b = absurd (omega arith)
+triple-at (a ∷ h ∷ w ∷ rest) (suc i) zero is b = absurd (omega arith)
+triple-at (a ∷ h ∷ w ∷ rest) (suc i) (suc zero) is b = absurd (omega arith)
+triple-at (a ∷ h ∷ w ∷ rest) (suc i) (suc (suc zero)) is b = absurd (omega arith)
+triple-at (a ∷ h ∷ w ∷ rest) (suc i) (suc (suc (suc j))) is b = triple-at rest i j (omega arith) (omega arith)
 
-module _ {words entries : List ℕ} (long : length entries ≡ 256) (few : length words ≤ 3 * 256) where
-  abbrev count : ℕ
-  count = length words / 3
-
+module _ (words entries : List ℕ) (long : length entries ≡ 256) (few : length words ≤ 3 * 256) where
   module _ (part : ℕ) (of : Triple → ℕ) (none : of zeros ≡ 0)
-      (reads : (i : ℕ) → i < count → of (getD (triples-in words) i zeros) ≡ getD words (3 * i + part) 0) where
+      (reads : (i : ℕ) → i < length words / 3 → of (getD (triples-in words) i zeros) ≡ getD words (3 * i + part) 0) where
     -- the first entries of a column are that part of the triples
-    pub column-is : Column part words entries → take count entries ≡ map of (triples-in words)
+    column-is : Column part words entries → take (length words / 3) entries ≡ map of (triples-in words)
     column-is column =
         as-table 0 (λ (i : ℕ). getD words (3 * i + part) 0)
-        (length-take-le count entries (omega (arith, long, few)))
-        (λ i b. getD-take count entries i 0 b ∙ column i b)
+        (length-take-le (length words / 3) entries (omega (arith, long, few)))
+        (λ i b. getD-take (length words / 3) entries i 0 b ∙ column i b)
         ∙ sym
         (as-table 0 (λ (i : ℕ). getD words (3 * i + part) 0)
         (length-map (triples-in words) of ∙ length-triples words)
         (λ i b. sym (ap (λ (d : ℕ). getD (map of (triples-in words)) i d) none) ∙ List·getD-map of (triples-in words) i zeros ∙ reads i b))
 
-  pub areas-are : Column 0 words entries → take count entries ≡ map area-in (triples-in words)
-  areas-are = column-is 0 area-in refl (λ i b. ap area-in (triple-at words i b) ∙ ap (λ (k : ℕ). getD words k 0) (omega arith))
+  same-word : (j k : ℕ) → j ≡ k → getD words j 0 ≡ getD words k 0
+  same-word j k e = ap (λ (x : ℕ). getD words x 0) e
 
-  pub heights-are : Column 1 words entries → take count entries ≡ map height-in (triples-in words)
-  heights-are = column-is 1 height-in refl (λ i b. ap height-in (triple-at words i b))
+  pub areas-are : Column 0 words entries → take (length words / 3) entries ≡ map area-in (triples-in words)
+  areas-are = column-is 0 area-in refl (λ i b. ap area-in (triple-at words i (3 * i) refl b) ∙ same-word (3 * i) (3 * i + 0) (omega arith))
 
-  pub widths-are : Column 2 words entries → take count entries ≡ map width-in (triples-in words)
-  widths-are = column-is 2 width-in refl (λ i b. ap width-in (triple-at words i b))
+  pub heights-are : Column 1 words entries → take (length words / 3) entries ≡ map height-in (triples-in words)
+  heights-are = column-is 1 height-in refl (λ i b. ap height-in (triple-at words i (3 * i) refl b) ∙ same-word (suc (3 * i)) (3 * i + 1) (omega arith))
+
+  pub widths-are : Column 2 words entries → take (length words / 3) entries ≡ map width-in (triples-in words)
+  widths-are = column-is 2 width-in refl (λ i b. ap width-in (triple-at words i (3 * i) refl b) ∙ same-word (suc (suc (3 * i))) (3 * i + 2) (omega arith))
 
 -- no part falls
 module _ (of : Triple → ℕ) (within : (low t : Triple) → Follows low t → of low ≤ of t) where
@@ -87,7 +87,7 @@ module _ (of : Triple → ℕ) (within : (low t : Triple) → Follows low t → 
       (le-leb (of low) (of t) (within low t here))
       (part-rises t rest (and-right (may-follow low t) (rising-triples t rest) e))
 
-module _ {words : List ℕ} (good : triples-good words ≡ true) where
+module _ (words : List ℕ) (good : triples-good words ≡ true) where
   list : Triple-list words
   list = triple-list words good
 

@@ -42,14 +42,7 @@ fn start_places(n: usize, count: usize, nodes: usize, ws: &mut [u32])
 }
 
 // Lowers the places of the nodes by thresholds of one attribute, which the nodes hold afterwards.
-fn lower_by(
-    picture: &[u8],
-    grid: Grid,
-    attribute: u32,
-    steps: &[u32],
-    nodes: usize,
-    ws: &mut [u32],
-)
+fn lower_by(picture: &[u8], grid: Grid, attribute: u32, steps: &[u32], nodes: usize, ws: &mut [u32])
     requires { ⌜ Flooded grid (now picture) (now ws) nodes ⌝ }
     requires { ⌜ length (now steps) ≤ most-steps ⌝ }
     requires { ⌜ not-falling 0 (now steps) ≡ true ⌝ }
