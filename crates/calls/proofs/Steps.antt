@@ -1,7 +1,7 @@
 -- Steps of both kinds: what a step keeps holds of more as a set grows, and is what its triple keeps; the tests of a good list get narrower; a list of
 -- thresholds and its triples are judged alike and keep the same. That a test holds of more as a set grows asks that a picture has no more pixels
 -- than it may have; the rest assumes nothing.
-use Prim.Native.Nat.{ℕ, suc, _+_, _*_, _/_, _%_, _≤_, _<_}
+use Prim.Native.Nat.{ℕ, suc, _+_, _*_, _/_, _%_, _≤_, _<_, max}
 use mathlib.Core.Bool.{Bool, true, false, cond, _&&_, _||_}
 use mathlib.Core.List.{List, [], _∷_, map}
 use mathlib.Core.Logic.{_⊎_, inl, inr, ⊎-elim}
@@ -19,7 +19,7 @@ use Rattle.opening.proofs.Threshold.{at-least-up}
 use Rattle.opening.proofs.Residue.{rising-not-falling, threshold-tests-narrow}
 use Rattle.grid.specs.Pixels.{pixels}
 use Rattle.grid.specs.Attributes.{touches-frame, attribute}
-use Rattle.grid.specs.Triples.{triple-of, meets, zeros, need}
+use Rattle.grid.specs.Triples.{triple-of, meets, zeros, need, join}
 use Rattle.grid.specs.declared.Grid.{Grid}
 use Rattle.grid.specs.declared.Triple.{Triple}
 use Rattle.grid.proofs.Attributes.{attribute-increasing, attribute-needs-pixel, attribute-touched}
@@ -249,6 +249,13 @@ by-part a P area height width =
     (decided (eqb a 2)))
     (decided (eqb a 1))
 
+-- the threshold 0 is three zeros, and the largest values of two thresholds are the larger one
+pub need-none : (a : ℕ) → need a 0 ≡ zeros
+need-none a = by-part a (λ (f : ℕ → Triple). f 0 ≡ zeros) refl refl refl
+
+pub need-join : (a t u : ℕ) → join (need a t) (need a u) ≡ need a (max t u)
+need-join a t u = by-part a (λ (f : ℕ → Triple). join (f t) (f u) ≡ f (max t u)) refl refl refl
+
 alone-rises : (a low t : ℕ) → low < t → t ≤ top-threshold → Follows (need a low) (need a t)
 alone-rises a low t more small =
     by-part a (λ (f : ℕ → Triple). Follows (f low) (f t))
@@ -305,5 +312,4 @@ list-judged a steps =
     same-truth (leb l most-steps) (leb k (3 * most-steps)) (λ e. le-leb k (3 * most-steps) (omega (arith, leb-true l most-steps e)))
     (λ e. le-leb l most-steps (omega (arith, leb-true k (3 * most-steps) e))) in
     let whole : eqb (k % 3) 0 ≡ true = eq-eqb (k % 3) 0 (omega arith) in
-    let none : need a 0 ≡ zeros = by-part a (λ (f : ℕ → Triple). f 0 ≡ zeros) refl refl refl in
-    rw (whole, ← some, ← few, words-read (map (need a) steps), ← none, ← rising-alone a 0 steps) refl
+    rw (whole, ← some, ← few, words-read (map (need a) steps), ← need-none a, ← rising-alone a 0 steps) refl

@@ -1,3 +1,4 @@
 pub mod Handed
+pub mod Mixed
 pub mod Demand
 pub mod Dark

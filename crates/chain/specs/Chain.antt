@@ -1,7 +1,7 @@
--- Chains of opening calls, and the claim about a whole chain.
+-- Chains of opening calls, and the claim about a whole chain of one attribute.
 use Prim.Native.Nat.{ℕ, _+_, _-_, _≤_, _<_, min, max}
 use mathlib.Core.Bool.{Bool, true, false, cond}
-use mathlib.Core.List.{List, [], _∷_}
+use mathlib.Core.List.{List, [], _∷_, map}
 use mathlib.Core.Logic.{_↔_}
 use mathlib.Core.Path.{_≡_}
 use lib.ListN.{length}
@@ -17,22 +17,23 @@ use Rattle.causes.specs.Causes.{number-of}
 use Rattle.causes.specs.Sides.{sides-fit}
 use Rattle.causes.specs.declared.Cause.{Cause}
 use Rattle.calls.specs.Judging.{steps-good, accepted as is-accepted, verdict-numbers}
-use Rattle.calls.specs.Calls.{grey, node-attribute, Open-call, opening-of, open-verdict, open-output, mapping-of, map-verdict, map-residue, map-index}
+use Rattle.calls.specs.Calls.{grey, node-attribute, Open-call, opening-of, open-verdict, open-output, Map-call, mapping-of, map-verdict, map-residue, map-index}
+use Rattle.calls.specs.declared.Step.{Step}
+use Rattle.calls.specs.declared.Step.the-variants.{Threshold, Three}
+use Rattle.calls.specs.declared.Kind.the-variants.{Thresholds}
 use Rattle.calls.specs.declared.Verdict.{Verdict}
 use Rattle.calls.specs.declared.Verdict.the-variants.{Accepted, Refused}
 
 -- an opening call of a chain: what it names and what it is lent. The picture it is given comes from the calls before it.
 pub record Call : Type 0 where
   pub grid : Grid
-  pub attribute : ℕ
-  pub threshold : ℕ
+  pub step : Step
   pub workspace : List ℕ
   pub output : List ℕ
 
 -- a call of a chain with the picture that it is given
 abbrev pub given-to : List ℕ → Call → Open-call
-given-to given call =
-    opening-of given (call .grid) (call .attribute) (call .threshold) (call .workspace) (call .output)
+given-to given call = opening-of given (call .grid) (call .step) (call .workspace) (call .output)
 
 -- the verdict on it
 abbrev pub verdict : List ℕ → Call → Verdict
@@ -59,12 +60,21 @@ unfoldable pub chain-picture : List ℕ → List Call → List ℕ
 chain-picture original [] = original
 chain-picture original (call ∷ rest) = chain-picture (handed-on original call) rest
 
+-- the steps of the accepted calls, in order
+unfoldable pub accepted-steps : List ℕ → List Call → List Step
+accepted-steps given [] = []
+accepted-steps given (call ∷ rest) =
+    let later : List Step = accepted-steps (handed-on given call) rest in
+    cond (accepted given call) (call .step ∷ later) later
+
+-- the threshold of a step. No call of a chain of one attribute is accepted with a triple: 0 stands for it.
+abbrev pub step-threshold : Step → ℕ
+step-threshold (Threshold a t) = t
+step-threshold (Three t) = 0
+
 -- "the accepted thresholds, in order"
-unfoldable pub accepted-thresholds : List ℕ → List Call → List ℕ
-accepted-thresholds given [] = []
-accepted-thresholds given (call ∷ rest) =
-    let later : List ℕ = accepted-thresholds (handed-on given call) rest in
-    cond (accepted given call) (call .threshold ∷ later) later
+abbrev pub accepted-thresholds : List ℕ → List Call → List ℕ
+accepted-thresholds original calls = map step-threshold (accepted-steps original calls)
 
 -- "Its largest threshold is taken over accepted calls, 0 if there are none."
 abbrev pub largest-threshold : List ℕ → List Call → ℕ
@@ -84,13 +94,27 @@ chain-residues n original calls = table n (λ (p : ℕ). largest (chain-falls or
 unfoldable pub chain-indices : ℕ → List ℕ → List Call → List ℕ
 chain-indices n original calls = table n (λ (p : ℕ). largest-place (chain-falls original calls p))
 
--- "Accepted calls name the chain's width, height and attribute; refused ones may name any numbers and be lent any workspace and
--- output." The neighbourhood is "the same in all accepted calls of a chain": it stands in the grid.
-unfoldable pub Named : Grid → ℕ → List ℕ → List Call → Type 0
-Named grid a given [] = Unit {0}
-Named grid a given (call ∷ rest) =
-    (accepted given call ≡ true → (call .grid ≡ grid) × (call .attribute ≡ a))
-    × Named grid a (handed-on given call) rest
+-- both maps of a chain "equal, at every pixel, what an accepted map call [..] writes"
+abbrev pub Maps-written : List ℕ → List Call → Map-call → Type 0
+Maps-written original calls call =
+    map-verdict call ≡ Accepted
+    → (chain-residues (pixels (call .grid)) original calls ≡ map-residue call) × (chain-indices (pixels (call .grid)) original calls ≡ map-index call)
+
+-- every accepted call of a chain is such a one; "refused ones may name any numbers and be lent any workspace and output"
+unfoldable pub Each-accepted : (Call → Type 0) → List ℕ → List Call → Type 0
+Each-accepted Such given [] = Unit {0}
+Each-accepted Such given (call ∷ rest) = (accepted given call ≡ true → Such call) × Each-accepted Such (handed-on given call) rest
+
+-- a call names the chain's width and height, and its neighbourhood, which is "the same in all accepted calls of a chain"
+abbrev pub On-grid : Grid → Call → Type 0
+On-grid grid call = call .grid ≡ grid
+
+-- "Accepted calls name the chain's width, height and attribute": they open at a threshold of it.
+abbrev pub Names : Grid → ℕ → Call → Type 0
+Names grid a call = On-grid grid call × ((t : ℕ) × (call .step ≡ Threshold a t))
+
+abbrev pub Named : Grid → ℕ → List ℕ → List Call → Type 0
+Named grid a original calls = Each-accepted (Names grid a) original calls
 
 -- "A chain has an original (any picture within the bounds above), its width and height, one attribute, and a list of opening calls,
 -- which may be empty." The grid names the neighbourhood too. That greys are bytes, and that its number is 4 or 8, is
@@ -127,14 +151,14 @@ pub record Claim (grid : Grid) (a : ℕ) (original : List ℕ) (calls : List Cal
   pub root : (p : ℕ) → p < pixels grid → grey original p ≡ least-grey (pixels grid) (grey original) ↔ Whole grid original p
   -- the chain's picture and the single opening at t are equal exactly when no node other than the root has its attribute at or above
   -- the smaller and below the larger of t and the chain's largest threshold
-  pub equal : (t : ℕ) (workspace output : List ℕ) → open-verdict (opening-of original grid a t workspace output) ≡ Accepted
-      → Equal (pixels grid) (chain-picture original calls) (open-output (opening-of original grid a t workspace output))
+  pub equal : (t : ℕ) (workspace output : List ℕ) → open-verdict (opening-of original grid (Threshold a t) workspace output) ≡ Accepted
+      → Equal (pixels grid) (chain-picture original calls) (open-output (opening-of original grid (Threshold a t) workspace output))
       ↔ No-node-between grid a original t (largest-threshold original calls)
   -- the chain's picture is a leveling of the original
   pub chain-leveling : Leveling (pixels grid) (adjacent grid) (grey original) (grey (chain-picture original calls))
   -- and so is the single opening
-  pub single-leveling : (t : ℕ) (workspace output : List ℕ) → open-verdict (opening-of original grid a t workspace output) ≡ Accepted
-      → Leveling (pixels grid) (adjacent grid) (grey original) (grey (open-output (opening-of original grid a t workspace output)))
+  pub single-leveling : (t : ℕ) (workspace output : List ℕ) → open-verdict (opening-of original grid (Threshold a t) workspace output) ≡ Accepted
+      → Leveling (pixels grid) (adjacent grid) (grey original) (grey (open-output (opening-of original grid (Threshold a t) workspace output)))
   -- subtraction hides a rise, so it is said that there is none: the falls of a pixel at the accepted calls and its grey in the chain's
   -- picture add up to the grey that it had
   pub falls : (p : ℕ) → p < pixels grid → total (chain-falls original calls p) + grey (chain-picture original calls) p ≡ grey original p
@@ -142,6 +166,5 @@ pub record Claim (grid : Grid) (a : ℕ) (original : List ℕ) (calls : List Cal
   -- original writes for that list and the chain's width, height and attribute." The map call names the chain's grid, so its neighbourhood too,
   -- and the gap 0: "the maps of demand 2 and of chains are those at gap 0".
   pub maps : (steps : List ℕ) → accepted-thresholds original calls ≡ steps → steps-good steps ≡ true
-      → (workspace residue index : List ℕ) → map-verdict (mapping-of original grid a steps 0 workspace residue index) ≡ Accepted
-      → (chain-residues (pixels grid) original calls ≡ map-residue (mapping-of original grid a steps 0 workspace residue index))
-      × (chain-indices (pixels grid) original calls ≡ map-index (mapping-of original grid a steps 0 workspace residue index))
+      → (workspace residue index : List ℕ)
+      → Maps-written original calls (mapping-of original grid (Thresholds a) steps 0 workspace residue index)

@@ -1,1 +1,1 @@
-// Chains of opening calls: definitions and the claim about whole chains only, no code.
+// Chains of opening calls: definitions and the claims about whole chains only, no code.

@@ -26,6 +26,20 @@ pub record Within (t u : Triple) : Type 0 where
   pub heights : t .height ≤ u .height
   pub widths : t .width ≤ u .width
 
+-- triples with equal parts are equal
+same-parts : (t u : Triple) → t .area ≡ u .area → t .height ≡ u .height → t .width ≡ u .width → t ≡ u
+same-parts t u areas heights widths = λ i. triple-of (areas i) (heights i) (widths i)
+
+-- the largest value in each part: three zeros add nothing, and neither does a triple with no part above; the order of joining is free
+pub join-zeros : (t : Triple) → join t zeros ≡ t
+join-zeros t = same-parts (join t zeros) t (omega arith) (omega arith) (omega arith)
+
+pub join-within : (t u : Triple) → Within t u → join t u ≡ u
+join-within t u below = same-parts (join t u) u (omega arith) (omega arith) (omega arith)
+
+pub join-assoc : (s t u : Triple) → join (join s t) u ≡ join s (join t u)
+join-assoc s t u = same-parts (join (join s t) u) (join s (join t u)) (omega arith) (omega arith) (omega arith)
+
 module _ (grid : Grid) where
   -- to have t or more of the attribute a
   abbrev has : ℕ → ℕ → Positions → Bool

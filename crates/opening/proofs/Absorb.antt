@@ -10,7 +10,7 @@ use Rattle.connected.specs.Component.{Adjacency, Symmetric}
 use Rattle.opening.specs.Opening.{component-at, least-grey, Keeps, Upward, opened-by}
 use Rattle.opening.proofs.Levels.{eq-by-levels}
 use Rattle.opening.proofs.Components.{level-mono, level-within, level-same, component-grey}
-use Rattle.opening.proofs.Opened.{opened-ge, opened-le, opened-above, opened-kept, opened-least, opened-same}
+use Rattle.opening.proofs.Opened.{opened-ge, opened-le, opened-above, opened-kept, opened-ext, opened-least, opened-same}
 
 -- what two tests both keep
 abbrev pub keeps-both : Keeps → Keeps → Keeps
@@ -115,6 +115,12 @@ module _ (n : ℕ) (adj : Adjacency) (symm : Symmetric adj) (keeps : Keeps) (up 
           (omega (arith, least))
           reached
           (up-other _ _ (opened-component p h above reached) (and-right (keeps _) (other _) kept))
+
+  -- the same of a picture f that is the opening of g
+  pub opened-after : (f : ℕ → ℕ) → ((q : ℕ) → q < n → f q ≡ opened-by n adj keeps g q) → (other : Keeps) → Upward n other → (p : ℕ) → p < n
+      → opened-by n adj other f p ≡ opened-by n adj (keeps-both keeps other) g p
+  opened-after f at other up-other p below =
+      opened-ext n adj other f (opened-by n adj keeps g) up-other at p below ∙ opened-absorb other up-other p below
 
   -- an opening of its own opening changes nothing
   pub opened-idempotent : (p : ℕ) → p < n → opened-by n adj keeps (opened-by n adj keeps g) p ≡ opened-by n adj keeps g p

@@ -6,15 +6,14 @@ use mathlib.Core.Path.{_≡_, sym, _∙_}
 use native.Mathlib.Omega.{arith}
 use lib.Dec.{leb}
 use borrow.Author.Tests.{leb-true, leb-false, le-leb, lt-leb}
-use Rattle.sets.specs.Sets.{Positions, member}
+use Rattle.sets.specs.Sets.{member}
 use Rattle.sets.proofs.Tests.{same-truth, le-or-lt}
 use Rattle.connected.specs.Component.{Adjacency, Symmetric}
-use Rattle.opening.specs.Opening.{component-at, least-grey, Keeps, Upward, Increasing, at-least, opened-by, opened}
+use Rattle.opening.specs.Opening.{component-at, least-grey, Keeps, Upward, opened-by}
 use Rattle.opening.specs.Node.{node}
 use Rattle.opening.proofs.Levels.{eq-by-levels}
 use Rattle.opening.proofs.Components.{level-mono, level-within, level-same, level-self, component-grey, darkest}
 use Rattle.opening.proofs.Opened.{opened-ge, opened-le, opened-above, opened-kept}
-use Rattle.opening.proofs.Threshold.{at-least-up}
 
 module _ (n : ℕ) (adj : Adjacency) (g : ℕ → ℕ) where
   -- at every pixel above the least grey, both tests give the same on its node
@@ -89,7 +88,7 @@ module _ (n : ℕ) (adj : Adjacency) (g : ℕ → ℕ) where
     )
 
 -- two thresholds give the same on a number exactly if it is not at or above the smaller and below the larger
-same-at-least : (a s t : ℕ) → (leb s a ≡ leb t a) ↔ (¬ ((min s t ≤ a) × (a < max s t)))
+pub same-at-least : (a s t : ℕ) → (leb s a ≡ leb t a) ↔ (¬ ((min s t ≤ a) × (a < max s t)))
 same-at-least a s t = (
   (λ same range.
       ⊎-elim
@@ -102,16 +101,3 @@ same-at-least a s t = (
     follows : (u v : ℕ) → (u ≤ a → a < v → ⊥) → leb u a ≡ true → leb v a ≡ true
     follows u v free e =
         ⊎-elim (λ (l : v ≤ a). le-leb v a l) (λ (l : a < v). absurd (free (leb-true u a e) l)) (le-or-lt v a)
-
-module _ (n : ℕ) (adj : Adjacency) (symm : Symmetric adj) (attr : Positions → ℕ) (rise : Increasing n attr) (g : ℕ → ℕ) where
-  -- the openings at s and at t agree at every pixel exactly if no node above the least grey has its attribute at or above the smaller
-  -- and below the larger
-  pub opened-equal : (s t : ℕ)
-      → ((p : ℕ) → p < n → opened n adj attr s g p ≡ opened n adj attr t g p)
-      ↔ ((p : ℕ) → p < n → least-grey n g < g p
-      → ¬ ((min s t ≤ attr (member (node n adj g p))) × (attr (member (node n adj g p)) < max s t)))
-  opened-equal s t =
-      let agree = opened-agree n adj g symm (at-least attr s) (at-least attr t) (at-least-up n attr rise s) (at-least-up n attr rise t) in (
-        (λ same p below above. same-at-least (attr (member (node n adj g p))) s t .0 (agree .0 same p below above)),
-        (λ free. agree .1 (λ p below above. same-at-least (attr (member (node n adj g p))) s t .1 (free p below above))),
-      )

@@ -9,7 +9,7 @@ use Rattle.sets.specs.Sets.{Positions}
 use Rattle.sets.proofs.Tests.{and-left, and-right, and-both, same-truth}
 use Rattle.connected.specs.Component.{Adjacency, Symmetric}
 use Rattle.opening.specs.Opening.{Upward, Increasing, at-least, opened}
-use Rattle.opening.proofs.Opened.{opened-mono, opened-ext, opened-all, opened-same}
+use Rattle.opening.proofs.Opened.{opened-mono, opened-same}
 use Rattle.opening.proofs.Absorb.{opened-absorb, keeps-both}
 
 -- "t or more" holds of more as a set grows
@@ -29,65 +29,44 @@ both-at-least a s t =
     (λ e. le-leb (max s t) a (omega (arith, leb-true s a (and-left (leb s a) (leb t a) e), leb-true t a (and-right (leb s a) (leb t a) e))))
     (λ e. let l : max s t ≤ a = leb-true (max s t) a e in and-both (leb s a) (leb t a) (le-leb s a (omega arith)) (le-leb t a (omega arith)))
 
-module _ (n : ℕ) (adj : Adjacency) (attr : Positions → ℕ) where
-  -- "Threshold 0 changes nothing"
-  pub opened-zero : (g : ℕ → ℕ) (p : ℕ) → p < n → opened n adj attr 0 g p ≡ g p
-  opened-zero g p below = opened-all n adj (at-least attr 0) g (λ s. le-leb 0 (attr s) (omega arith)) p below
+module _ (n : ℕ) (adj : Adjacency) (attr : Positions → ℕ) (rise : Increasing n attr) where
+  -- the opening at a larger threshold is at most that at a smaller one
+  pub opened-falls : (t u : ℕ) (g : ℕ → ℕ) → t ≤ u → (p : ℕ) → p < n → opened n adj attr u g p ≤ opened n adj attr t g p
+  opened-falls t u g larger p below =
+      opened-mono
+      n
+      adj
+      (at-least attr u)
+      (at-least attr t)
+      g
+      g
+      (at-least-up n attr rise u)
+      (at-least-up n attr rise t)
+      (at-least-less attr t u larger)
+      (λ q b. omega arith)
+      p
+      below
 
-  module _ (rise : Increasing n attr) where
-    -- the opening at a larger threshold is at most that at a smaller one
-    pub opened-falls : (t u : ℕ) (g : ℕ → ℕ) → t ≤ u → (p : ℕ) → p < n → opened n adj attr u g p ≤ opened n adj attr t g p
-    opened-falls t u g larger p below =
-        opened-mono
-        n
-        adj
-        (at-least attr u)
-        (at-least attr t)
-        g
-        g
-        (at-least-up n attr rise u)
-        (at-least-up n attr rise t)
-        (at-least-less attr t u larger)
-        (λ q b. omega arith)
-        p
-        below
-
-    -- the opening at s of the opening at t is the opening at the larger of the two
-    pub opened-max : Symmetric adj → (s t : ℕ) (g : ℕ → ℕ) (p : ℕ) → p < n
-        → opened n adj attr s (λ (q : ℕ). opened n adj attr t g q) p ≡ opened n adj attr (max t s) g p
-    opened-max symm s t g p below =
-        opened-absorb
-        n
-        adj
-        symm
-        (at-least attr t)
-        (at-least-up n attr rise t)
-        g
-        (at-least attr s)
-        (at-least-up n attr rise s)
-        p
-        below
-        ∙ opened-same
-        n
-        adj
-        (keeps-both (at-least attr t) (at-least attr s))
-        (at-least attr (max t s))
-        g
-        (λ x. both-at-least (attr x) t s)
-        p
-
-    -- the same of a picture f that is the opening at s of g
-    pub opened-after : Symmetric adj → (s t : ℕ) (f g : ℕ → ℕ) → ((q : ℕ) → q < n → f q ≡ opened n adj attr s g q)
-        → (p : ℕ) → p < n → opened n adj attr t f p ≡ opened n adj attr (max s t) g p
-    opened-after symm s t f g at p below =
-        opened-ext
-        n
-        adj
-        (at-least attr t)
-        f
-        (λ (q : ℕ). opened n adj attr s g q)
-        (at-least-up n attr rise t)
-        at
-        p
-        below
-        ∙ opened-max symm t s g p below
+  -- the opening at s of the opening at t is the opening at the larger of the two
+  pub opened-max : Symmetric adj → (s t : ℕ) (g : ℕ → ℕ) (p : ℕ) → p < n
+      → opened n adj attr s (λ (q : ℕ). opened n adj attr t g q) p ≡ opened n adj attr (max t s) g p
+  opened-max symm s t g p below =
+      opened-absorb
+      n
+      adj
+      symm
+      (at-least attr t)
+      (at-least-up n attr rise t)
+      g
+      (at-least attr s)
+      (at-least-up n attr rise s)
+      p
+      below
+      ∙ opened-same
+      n
+      adj
+      (keeps-both (at-least attr t) (at-least attr s))
+      (at-least attr (max t s))
+      g
+      (λ x. both-at-least (attr x) t s)
+      p
