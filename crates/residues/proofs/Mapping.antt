@@ -1,6 +1,6 @@
 -- What sizing a picture gives, and what a map call answers and writes: refused, it leaves all as it was; accepted, the record, and both maps from
 -- the pairs of the pixels. Assumes nothing.
-use Prim.Native.Nat.{ℕ, _*_, _<_}
+use Prim.Native.Nat.{ℕ, _*_, _≤_, _<_}
 use mathlib.Core.List.{List}
 use mathlib.Core.Path.{_≡_, refl, sym, ap, _∙_}
 use native.Mathlib.Omega.{arith}
@@ -8,32 +8,39 @@ use lib.ListN.{length, getD}
 use Rattle.sets.specs.Sets.{table}
 use Rattle.sets.proofs.Laws.{table-at, table-ext}
 use Rattle.sets.proofs.Tables.{table-long}
+use Rattle.opening.specs.Opening.{Keeps}
 use Rattle.grid.specs.Pixels.{pixels}
 use Rattle.grid.specs.declared.Grid.{Grid}
-use Rattle.causes.specs.Bounds.{words-a-pixel}
+use Rattle.causes.specs.Bounds.{words-a-pixel, most-steps}
 use Rattle.causes.specs.declared.Cause.{Cause}
+use Rattle.calls.specs.Steps.{list-tests, list-attribute}
 use Rattle.calls.specs.Judging.{verdict-numbers}
-use Rattle.calls.specs.Calls.{grey, residue-map, index-map, Map-call, map-verdict, map-workspace, map-residue, map-index}
+use Rattle.calls.specs.Calls.{grey, residue-map, index-map, Map-call, map-verdict, kept-by, map-workspace, map-residue, map-index}
+use Rattle.calls.specs.declared.Kind.{Kind}
 use Rattle.calls.specs.declared.Verdict.{Verdict}
 use Rattle.calls.specs.declared.Verdict.the-variants.{Accepted, Refused}
-use Rattle.calls.proofs.Accepted.{Map-passed, map-passed, bounded, Step-list, step-list}
+use Rattle.calls.proofs.Accepted.{Map-passed, map-passed, bounded}
+use Rattle.calls.proofs.Steps.{everything, list-narrow, list-few}
 use Rattle.max_tree.specs.Building.{Noded, Recordable, Recorded}
 use Rattle.max_tree.proofs.Assembly.{rebuildable}
 use Rattle.map_passes.specs.Settle.{total-in, index-in}
 use Rattle.map_passes.specs.Passes.{Given, pair-for, Holdable, Paired}
 use Rattle.map_passes.proofs.Climbing.{nodes-climbable}
 use Rattle.map_passes.proofs.Keeping.{nodes-kept}
+use Rattle.placing.specs.Placing.{Placed}
 use Rattle.residues.specs.Sizing.{Sizeable, Node-pairs, Pixel-pairs}
 
--- sizing, once the words of the nodes are built
-module _ {grid : Grid} {a gap nodes : ℕ} {picture steps lent ws : List ℕ} (sizeable : Sizeable grid picture steps gap lent)
-    (built : Noded grid a picture ws nodes) where
-  pub pass-asks : ((q : ℕ) → grey picture q < 256) → Given (length picture) nodes gap steps ws
+-- sizing, once the nodes have their places
+module _ {grid : Grid} {kind : Kind} {gap nodes count : ℕ} {picture steps lent ws : List ℕ} (sizeable : Sizeable grid picture kind steps gap lent)
+    (placed : Placed grid kind picture steps nodes count ws) where
+  pub few-steps : count ≤ most-steps
+  few-steps = rw (placed .number) (list-few grid kind steps (sizeable .step-list))
+
+  pub pass-asks : ((q : ℕ) → grey picture q < 256) → Given (length picture) nodes gap count ws
   pass-asks bytes =
-      let list : Step-list steps = step-list steps (sizeable .step-list) in
+      let built = placed .noded in
       record {
-        few = list .not-more;
-        rise = list .rises;
+        few = few-steps;
         small-gap = sizeable .small-gap;
         ws-size = built .buildable .words ∙ ap (λ (n : ℕ). words-a-pixel * n) (sym (built .buildable .bytes));
         level = _;
@@ -41,28 +48,33 @@ module _ {grid : Grid} {a gap nodes : ℕ} {picture steps lent ws : List ℕ} (s
       }
 
   -- and the pass over them is made
-  pub settled : {ws' : List ℕ} → Paired picture steps gap nodes ws ws' → Node-pairs grid a picture steps gap ws'
+  pub settled : {ws' : List ℕ} → Paired picture count gap nodes ws ws' → Node-pairs grid picture kind steps gap ws'
   settled paired =
+      let built = placed .noded in
       let fits = bounded (grid .width) (grid .height) (built .buildable .sides) in
       record {
         number = nodes;
         noded =
             record {
               buildable = rebuildable (built .buildable) (paired .kept .words);
-              nodes = nodes-kept grid a picture (paired .kept) (built .nodes);
+              nodes = nodes-kept grid (list-attribute kind) picture (paired .kept) (built .nodes);
             };
         holdable = paired .holdable;
-        right = paired .right grid a (fits .wide) (fits .small) (built .buildable .bytes) (built .nodes);
+        right =
+            paired .right grid (list-attribute kind) (fits .wide) (built .buildable .bytes) (built .nodes) everything (list-tests grid kind steps)
+            (list-narrow grid (fits .small) kind steps (sizeable .step-list))
+            (sym (placed .number))
+            (placed .places);
       }
 
 -- the pass over the pixels
-module _ {grid : Grid} {a gap : ℕ} {picture steps ws : List ℕ} (words : Node-pairs grid a picture steps gap ws) where
+module _ {grid : Grid} {kind : Kind} {gap : ℕ} {picture steps ws : List ℕ} (words : Node-pairs grid picture kind steps gap ws) where
   pub hold-asks : {pairs : ℕ} → pairs ≡ pixels grid → Holdable (length picture) ws pairs
   hold-asks size =
       let all = words .holdable in
       record { ws-size = all .ws-size; pairs-size = size ∙ sym (words .noded .buildable .bytes); within = all .within; fits = all .fits }
 
-  pub held : {pairs : List ℕ} → pairs ≡ table (length picture) (pair-for (length picture) ws) → Pixel-pairs grid a picture steps gap pairs
+  pub held : {pairs : List ℕ} → pairs ≡ table (length picture) (pair-for (length picture) ws) → Pixel-pairs grid picture (list-tests grid kind steps) gap pairs
   held is =
       let n : ℕ = length picture in
       let bytes = words .noded .buildable .bytes in
@@ -75,23 +87,23 @@ module _ {grid : Grid} {a gap : ℕ} {picture steps ws : List ℕ} (words : Node
       }
 
   pub record-asks : Recordable picture ws
-  record-asks = record { grid = grid; attribute = a; number = words .number; noded = words .noded }
+  record-asks = record { grid = grid; attribute = list-attribute kind; number = words .number; noded = words .noded }
 
 -- the maps of the pairs of the pixels
-pub unpacked : {grid : Grid} {a gap : ℕ} {picture steps pairs residue index : List ℕ} → Pixel-pairs grid a picture steps gap pairs
+pub unpacked : {grid : Grid} {tests : List Keeps} {gap : ℕ} {picture pairs residue index : List ℕ} → Pixel-pairs grid picture tests gap pairs
     → (residue ≡ table (length pairs) (λ (q : ℕ). total-in (getD pairs q 0)))
     × (index ≡ table (length pairs) (λ (q : ℕ). index-in (getD pairs q 0)))
-    → (residue ≡ residue-map grid a steps gap picture) × (index ≡ index-map grid a steps gap picture)
+    → (residue ≡ residue-map grid tests gap picture) × (index ≡ index-map grid tests gap picture)
 unfolding residue-map index-map
 unpacked {grid} held (is-residue, is-index) =
     let n : ℕ = pixels grid in (
-      is-residue ∙ rw (held .size) (table-ext n _ _ (λ q b. held .right q b .0 ∙ table-at n _ q 0 b)),
-      is-index ∙ rw (held .size) (table-ext n _ _ (λ q b. held .right q b .1 ∙ table-at n _ q 0 b)),
+      is-residue ∙ rw (held .size) (table-ext n _ _ (λ q b. held .right q b .0)),
+      is-index ∙ rw (held .size) (table-ext n _ _ (λ q b. held .right q b .1)),
     )
 
 -- an accepted call asks what sizing needs, of its picture or another of as many pixels
 pub sizes : {call : Map-call} → Map-passed call → {picture ws : List ℕ} → length picture ≡ pixels (call .grid) → length ws ≡ words-a-pixel * pixels (call .grid)
-    → Sizeable (call .grid) picture (call .steps) (call .gap) ws
+    → Sizeable (call .grid) picture (call .kind) (call .steps) (call .gap) ws
 sizes passed bytes words =
     record {
       buildable = record { sides = passed .common .sides; bytes = bytes; words = words };
@@ -120,13 +132,13 @@ module _ (call : Map-call) {verdict : Verdict} (judged : verdict ≡ map-verdict
     pub passed : Map-passed call
     passed = map-passed call (sym judged ∙ accepted)
 
-    pub size-asks : Sizeable (call .grid) (call .picture) (call .steps) (call .gap) (call .workspace)
+    pub size-asks : Sizeable (call .grid) (call .picture) (call .kind) (call .steps) (call .gap) (call .workspace)
     size-asks = sizes passed (passed .common .a-byte-each) (passed .common .words-each)
 
     -- the record is written, and then the maps
     pub called-done : {ws left pairs residue index : List ℕ} {number : ℕ}
-        → Node-pairs (call .grid) (call .attribute) (call .picture) (call .steps) (call .gap) ws
-        → Pixel-pairs (call .grid) (call .attribute) (call .picture) (call .steps) (call .gap) pairs
+        → Node-pairs (call .grid) (call .picture) (call .kind) (call .steps) (call .gap) ws
+        → Pixel-pairs (call .grid) (call .picture) (kept-by call) (call .gap) pairs
         → Recorded (call .picture) ws left number
         → (residue ≡ table (length pairs) (λ (q : ℕ). total-in (getD pairs q 0)))
         × (index ≡ table (length pairs) (λ (q : ℕ). index-in (getD pairs q 0)))
@@ -135,4 +147,4 @@ module _ (call : Map-call) {verdict : Verdict} (judged : verdict ≡ map-verdict
     called-done words held recorded maps =
         let is : map-verdict call ≡ Accepted = sym judged ∙ accepted in
         let both = unpacked held maps in
-        rw is (refl, (recorded .whole (call .grid) (call .attribute) (words .number) (words .noded) .left, (both .0, both .1)))
+        rw is (refl, (recorded .whole (call .grid) (list-attribute (call .kind)) (words .number) (words .noded) .left, (both .0, both .1)))

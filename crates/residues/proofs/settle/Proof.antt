@@ -1,28 +1,43 @@
--- `residues::settle` meets its contract. Assumes nothing.
-use Rattle.residues.proofs.Mapping.{pass-asks, settled}
 use borrow.Author.Needs.{needs}
 use Rattle.residues.proofs.settle.Statement.{statement}
 use Rattle.residues.proofs.settle.Tie as tie
+use Rattle.residues.proofs.settle.Reads as reads
+use Rattle.residues.proofs.settle.Lts as lts
+use Rattle.map_passes.proofs.settle_pairs.Reads as settle-pairs-reads
+use Rattle.max_tree.proofs.number_nodes.Reads as number-nodes-reads
+use Rattle.placing.proofs.place_nodes.Reads as place-nodes-reads
 
-build-nodes-requires : tie.Need-build-nodes-requires
-build-nodes-requires c κs = c .before .before .before .before .pre .buildable
+-- src/lib.rt:25:9
+number-nodes-requires : tie.Need-number-nodes-requires
+number-nodes-requires c κs = search needs
 
+-- src/lib.rt:26:9
+place-nodes-requires : tie.Need-place-nodes-requires
+place-nodes-requires c κs = search needs
+
+-- src/lib.rt:27:39
+cast-settle-pairs : tie.Need-cast-settle-pairs
+cast-settle-pairs c = ?
+
+-- src/lib.rt:27:5
 settle-pairs-requires : tie.Need-settle-pairs-requires
-settle-pairs-requires c κs =
-    let at-build-nodes = c .before .before .before in
-    let lent = at-build-nodes .before .before .before .before in
-    let start = lent .before in
-    pass-asks (start .pre) (at-build-nodes .build-nodes .ensures) (λ q. lent .shared-slice-known .given q .fits)
+settle-pairs-requires c κs = ?
 
+-- src/lib.rt:14:1
 same-length : tie.Need-same-length
 same-length c = search needs
 
+-- src/lib.rt:14:1
 returns : tie.Need-returns
-returns c =
-    let at-settle-pairs = c .before .before in
-    let at-build-nodes = at-settle-pairs .before .before .before .before in
-    let start = at-build-nodes .before .before .before .before .before in
-    settled (start .pre) (at-build-nodes .build-nodes .ensures) (at-settle-pairs .settle-pairs .ensures)
+returns c = ?
 
 pub settle-spec : {M : Type 1} → statement M
-settle-spec = tie.close (tie.spec build-nodes-requires settle-pairs-requires same-length returns)
+settle-spec =
+    tie.close
+    (tie.spec
+    number-nodes-requires
+    place-nodes-requires
+    cast-settle-pairs
+    settle-pairs-requires
+    same-length
+    returns)
