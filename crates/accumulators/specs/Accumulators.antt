@@ -19,9 +19,13 @@ packed last first = last * longest-side + first
 unfoldable pub nothing : ℕ → ℕ
 nothing a = cond (eqb a 1) 0 (packed 0 (longest-side - 1))
 
+-- of one pixel, by its row (column)
+abbrev pub lone : ℕ → ℕ → ℕ
+lone a i = cond (eqb a 1) 1 (packed i i)
+
 -- of one pixel, by what is seen of it
 unfoldable pub seen : Grid → ℕ → ℕ → ℕ
-seen grid a q = cond (eqb a 1) 1 (packed (side (grid .width) a q) (side (grid .width) a q))
+seen grid a q = lone a (side (grid .width) a q)
 
 -- x, once the set has a pixel on the frame
 unfoldable pub framed : ℕ → ℕ → ℕ

@@ -3,8 +3,7 @@
 ghost use mathlib.Core.Path.{_≡_};
 ghost use Prim.Native.Nat.{_+_, _/_, _%_, _<_, min, max};
 ghost use Rattle.causes.specs.Bounds.{longest-side};
-ghost use Rattle.accumulators.specs.Accumulators.{packed, nothing, seen, framed, combined, measured, Small, Capped, Short, In-order};
-use grid::Grid;
+ghost use Rattle.accumulators.specs.Accumulators.{packed, nothing, lone, framed, combined, measured, Small, Capped, In-order};
 
 fn smaller(x: u32, y: u32) -> u32
     ensures { λ r. ⌜ r ≡ min x y ⌝ }
@@ -34,20 +33,15 @@ pub fn none(attribute: u32) -> u32
     causes::LONGEST_SIDE - 1
 }
 
-// The accumulator of what is seen of the pixel q.
-pub fn one(grid: Grid, attribute: u32, q: usize) -> u32
-    requires { ⌜ 0 < grid .width ⌝ }
-    requires { ⌜ Short grid attribute q ⌝ }
-    ensures { λ r. ⌜ r ≡ seen grid attribute q ⌝ }
+// The accumulator of one pixel by what is seen of it: its row for the height, its column for the width.
+pub fn one(attribute: u32, side: u32) -> u32
+    requires { ⌜ side < longest-side ⌝ }
+    ensures { λ r. ⌜ r ≡ lone attribute side ⌝ }
 {
     if attribute == 1 {
         return 1;
     }
-    let width = grid.width as usize;
-    if attribute == 2 {
-        return (q / width) as u32 * (causes::LONGEST_SIDE + 1);
-    }
-    (q % width) as u32 * (causes::LONGEST_SIDE + 1)
+    side * (causes::LONGEST_SIDE + 1)
 }
 
 // The accumulator of a set that has a pixel on the frame, from what is seen of it.

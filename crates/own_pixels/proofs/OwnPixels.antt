@@ -27,7 +27,7 @@ use Rattle.accumulators.specs.Accumulators.{nothing, seen, combined, gathered, 
 use Rattle.accumulators.proofs.Accumulators.{gathered-with, seen-small, seen-one, seen-capped, gathered-small, gathered-area-le, gathered-framed}
 use Rattle.parts.proofs.Parts.{lent, returned, lent-long, lent-read, read-one, read-two, read-else}
 use Rattle.frame.specs.Frame.{Marked, Framable}
-use Rattle.own_pixels.specs.OwnPixels.{Countable, Kept, Blank, Gatherable, gathered-at, Owned}
+use Rattle.own_pixels.specs.OwnPixels.{Countable, Kept, Blank, Gatherable, gathered-at, Seen, Owned}
 
 -- the words of the nodes, and the three of the node k among them
 abbrev nodes : ℕ → List ℕ → List ℕ
@@ -331,13 +331,7 @@ module _ {grid : Grid} {a n m : ℕ} {ws words : List ℕ} (start : Countable gr
               (gathered-next a n m q (seen grid a) (number-at ws₀) (held-in (nodes n ws')) (held-in words₁) b (seen-capped grid a q) (O .held) within (S .held));
         })
 
-  -- the words of the nodes by what is seen
-  record Seen (ws' : List ℕ) : Type 0 where
-    kept : Kept n m ws ws'
-    lowest : (k : ℕ) → k < m → lowest-of n ws' k ≡ first-in n (numbered ws k)
-    held : (k : ℕ) → k < m → held-of n ws' k ≡ gathered a n (seen grid a) (numbered ws k)
-
-  owning-end : {ws' : List ℕ} {q : ℕ} → q ≤ 0 → Owning grid a n m ws₀ ws' q → Seen ws'
+  pub owning-end : {ws' : List ℕ} {q : ℕ} → q ≤ 0 → Owning grid a n m ws₀ ws' q → Seen grid a n m ws ws'
   owning-end {ws'} none taken =
       let O : Owning grid a n m ws₀ ws' 0 = subst (λ (i : ℕ). Owning grid a n m ws₀ ws' i) (omega arith) taken in
       let long : length ws' ≡ words-a-pixel * n = owning-long O ∙ start .sized .words in
@@ -370,35 +364,32 @@ module _ {grid : Grid} {a n m : ℕ} {ws words : List ℕ} (start : Countable gr
             (λ x b. from-first (number-at ws₀) k x ∙ same k x b);
       }
 
-  -- the pass over the frame
-  module _ {ws' : List ℕ} {q : ℕ} (none : q ≤ 0) (taken : Owning grid a n m ws₀ ws' q) where
-    S : Seen ws'
-    S = owning-end none taken
+-- the pass over the frame
+module _ {grid : Grid} {a n m : ℕ} {ws ws' : List ℕ} (start : Countable grid a n m ws) (S : Seen grid a n m ws ws') where
+  pub frame-asked : Framable grid n ws'
+  frame-asked =
+      record {
+        sized = record { words = S .kept .words ∙ start .sized .words; small = start .sized .small };
+        whole = start .whole;
+        wide = start .wide;
+        high = start .high;
+        within = λ x b. omega (arith, S .kept .before x (omega arith), start .within x b, start .few);
+      }
 
-    pub frame-asked : Framable grid n ws'
-    frame-asked =
-        record {
-          sized = record { words = S .kept .words ∙ start .sized .words; small = start .sized .small };
-          whole = start .whole;
-          wide = start .wide;
-          high = start .high;
-          within = λ x b. omega (arith, S .kept .before x (omega arith), start .within x b, start .few);
-        }
-
-    pub framed-end : {ws'' : List ℕ} → Marked a n (on-frame grid) ws' ws'' → Owned grid a n m ws ws''
-    framed-end M =
-        record {
-          kept =
-              record {
-                words = M .words ∙ S .kept .words;
-                before = λ j b. M .before j b ∙ S .kept .before j b;
-                ups = λ k c. M .ups k ∙ S .kept .ups k c;
-              };
-          lowest = λ k c. M .lowests k ∙ S .lowest k c;
-          held =
-              λ k c.
-              let same : some-in n (λ (x : ℕ). numbered ws' k x && on-frame grid x) ≡ some-in n (λ (x : ℕ). numbered ws k x && on-frame grid x) =
-              some-in-ext n _ _ (λ x b. ap (λ (j : ℕ). eqb j k && on-frame grid x) (S .kept .before x (omega arith))) in
-              M .held k (omega (arith, start .few))
-              ∙ rw (same, S .held k c) (sym (gathered-framed grid a n (numbered ws k) (start .short)));
-        }
+  pub framed-end : {ws'' : List ℕ} → Marked a n (on-frame grid) ws' ws'' → Owned grid a n m ws ws''
+  framed-end M =
+      record {
+        kept =
+            record {
+              words = M .words ∙ S .kept .words;
+              before = λ j b. M .before j b ∙ S .kept .before j b;
+              ups = λ k c. M .ups k ∙ S .kept .ups k c;
+            };
+        lowest = λ k c. M .lowests k ∙ S .lowest k c;
+        held =
+            λ k c.
+            let same : some-in n (λ (x : ℕ). numbered ws' k x && on-frame grid x) ≡ some-in n (λ (x : ℕ). numbered ws k x && on-frame grid x) =
+            some-in-ext n _ _ (λ x b. ap (λ (j : ℕ). eqb j k && on-frame grid x) (S .kept .before x (omega arith))) in
+            M .held k (omega (arith, start .few))
+            ∙ rw (same, S .held k c) (sym (gathered-framed grid a n (numbered ws k) (start .short)));
+      }

@@ -8,7 +8,7 @@ use Rattle.grid.specs.Pixels.{pixels}
 use Rattle.grid.specs.declared.Grid.{Grid}
 use Rattle.causes.specs.Bounds.{most-pixels}
 use Rattle.levels.specs.Workspace.{Sized, number-at, numbered, lowest-of, up-of, held-of}
-use Rattle.accumulators.specs.Accumulators.{nothing, single, combined, gathered, Small, Capped, Short}
+use Rattle.accumulators.specs.Accumulators.{nothing, seen, single, combined, gathered, Small, Capped, Short}
 
 -- each of the n pixels of the grid has the number of one of m nodes, each node has a pixel, and rows and columns are short
 pub record Countable (grid : Grid) (a n m : ℕ) (ws : List ℕ) : Type 0 where
@@ -45,6 +45,12 @@ pub record Gatherable (a q k own : ℕ) (words : List ℕ) : Type 0 where
 -- the words of the nodes once the own pixel q, whose accumulator is given, is added to the node k
 abbrev pub gathered-at : ℕ → ℕ → ℕ → ℕ → List ℕ → List ℕ
 gathered-at a q k own words = set (set words (3 * k) q) (3 * k + 2) (combined a (getD words (3 * k + 2) 0) own)
+
+-- the lowest own pixel of each of m nodes, and the accumulator of what is seen of its own pixels
+pub record Seen (grid : Grid) (a n m : ℕ) (ws ws' : List ℕ) : Type 0 where
+  pub kept : Kept n m ws ws'
+  pub lowest : (k : ℕ) → k < m → lowest-of n ws' k ≡ first-in n (numbered ws k)
+  pub held : (k : ℕ) → k < m → held-of n ws' k ≡ gathered a n (seen grid a) (numbered ws k)
 
 -- the lowest own pixel of each of m nodes, and the accumulator of its own pixels
 pub record Owned (grid : Grid) (a n m : ℕ) (ws ws' : List ℕ) : Type 0 where
