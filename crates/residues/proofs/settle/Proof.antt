@@ -1,35 +1,27 @@
+-- `residues::settle` meets its contract. Assumes nothing.
+use native.Mathlib.Omega.{arith}
+use Rattle.residues.proofs.Mapping.{few-steps, pass-asks, settled}
 use borrow.Author.Needs.{needs}
 use Rattle.residues.proofs.settle.Statement.{statement}
 use Rattle.residues.proofs.settle.Tie as tie
-use Rattle.residues.proofs.settle.Reads as reads
-use Rattle.residues.proofs.settle.Lts as lts
-use Rattle.map_passes.proofs.settle_pairs.Reads as settle-pairs-reads
-use Rattle.max_tree.proofs.number_nodes.Reads as number-nodes-reads
-use Rattle.placing.proofs.place_nodes.Reads as place-nodes-reads
 
--- src/lib.rt:25:9
 number-nodes-requires : tie.Need-number-nodes-requires
-number-nodes-requires c κs = search needs
+number-nodes-requires c κs = (c .before .before .before .before) .pre .buildable
 
--- src/lib.rt:26:9
 place-nodes-requires : tie.Need-place-nodes-requires
-place-nodes-requires c κs = search needs
+place-nodes-requires c κs = (c .before .before .before .number-nodes .ensures, (c .before .before .before .before .before .before .before .before) .pre .step-list)
 
--- src/lib.rt:27:39
 cast-settle-pairs : tie.Need-cast-settle-pairs
-cast-settle-pairs c = ?
+cast-settle-pairs c = omega (arith, few-steps ((c .before .before .before .before .before .before .before .before .before .before .before) .pre) (c .before .before .place-nodes .ensures))
 
--- src/lib.rt:27:5
 settle-pairs-requires : tie.Need-settle-pairs-requires
-settle-pairs-requires c κs = ?
+settle-pairs-requires c κs = pass-asks ((c .before .before .before .before .before .before .before .before .before .before .before .before) .pre) (c .before .before .before .place-nodes .ensures) (λ q. c .before .before .before .before .before .before .before .before .before .before .before .shared-slice-known .given q .fits)
 
--- src/lib.rt:14:1
 same-length : tie.Need-same-length
 same-length c = search needs
 
--- src/lib.rt:14:1
 returns : tie.Need-returns
-returns c = ?
+returns c = settled ((c .before .before .before .before .before .before .before .before .before .before .before .before .before .before .before) .pre) (c .before .before .before .before .before .before .place-nodes .ensures) (c .before .before .settle-pairs .ensures)
 
 pub settle-spec : {M : Type 1} → statement M
 settle-spec =
