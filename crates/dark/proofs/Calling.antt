@@ -8,8 +8,9 @@ use lib.ListN.{length, getD}
 use Rattle.sets.specs.Sets.{table}
 use Rattle.grid.specs.Pixels.{pixels}
 use Rattle.causes.specs.declared.Cause.{Cause}
+use Rattle.calls.specs.Steps.{list-attribute}
 use Rattle.calls.specs.Judging.{verdict-numbers}
-use Rattle.calls.specs.Calls.{Map-call, map-verdict}
+use Rattle.calls.specs.Calls.{Map-call, map-verdict, kept-by}
 use Rattle.calls.specs.Reversed.{reversed, reversed-call}
 use Rattle.calls.specs.Combined.{contrast-of, combined-verdict, combined-workspace, combined-residue, combined-index, combined-contrast}
 use Rattle.calls.specs.declared.Verdict.{Verdict}
@@ -31,7 +32,7 @@ accepted-by judged accepted = sym judged ∙ accepted
 
 -- a picture that an accepted map call sizes, and its reversed one
 module _ (call : Map-call) (accepted : map-verdict call ≡ Accepted) where
-  pub light-asks : Sizeable (call .grid) (call .picture) (call .steps) (call .gap) (call .workspace)
+  pub light-asks : Sizeable (call .grid) (call .picture) (call .kind) (call .steps) (call .gap) (call .workspace)
   light-asks = size-asks call {verdict = map-verdict call} refl accepted
 
   pub index-long : length (call .index) ≡ pixels (call .grid)
@@ -41,7 +42,7 @@ module _ (call : Map-call) (accepted : map-verdict call ≡ Accepted) where
   reverse-asks = let passed = map-passed call accepted in passed .residue ∙ sym (passed .common .a-byte-each)
 
   pub dark-asks : {shown ws : List ℕ} → shown ≡ reversed (call .picture) → length ws ≡ length (call .workspace)
-      → Sizeable (call .grid) shown (call .steps) (call .gap) ws
+      → Sizeable (call .grid) shown (call .kind) (call .steps) (call .gap) ws
   dark-asks is long =
       let passed = map-passed call accepted in
       sizes passed (rw is (length-reversed (call .picture)) ∙ passed .common .a-byte-each) (long ∙ passed .common .words-each)
@@ -56,8 +57,8 @@ module _ (call : Map-call) {verdict : Verdict} (judged : verdict ≡ map-verdict
   dark-refused refused = called-refused (reversed-call call) due refused
 
   pub dark-done : {shown ws left pairs residue index : List ℕ} {number : ℕ} → verdict ≡ Accepted → shown ≡ reversed (call .picture)
-      → Node-pairs (call .grid) (call .attribute) shown (call .steps) (call .gap) ws
-      → Pixel-pairs (call .grid) (call .attribute) shown (call .steps) (call .gap) pairs
+      → Node-pairs (call .grid) shown (call .kind) (call .steps) (call .gap) ws
+      → Pixel-pairs (call .grid) shown (kept-by call) (call .gap) pairs
       → Recorded shown ws left number
       → (residue ≡ table (length pairs) (λ (q : ℕ). total-in (getD pairs q 0)))
       × (index ≡ table (length pairs) (λ (q : ℕ). index-in (getD pairs q 0)))
@@ -67,8 +68,8 @@ module _ (call : Map-call) {verdict : Verdict} (judged : verdict ≡ map-verdict
       (reversed-call call)
       due
       accepted
-      (subst (λ (picture : List ℕ). Node-pairs (call .grid) (call .attribute) picture (call .steps) (call .gap) ws) is words)
-      (subst (λ (picture : List ℕ). Pixel-pairs (call .grid) (call .attribute) picture (call .steps) (call .gap) pairs) is held)
+      (subst (λ (picture : List ℕ). Node-pairs (call .grid) picture (call .kind) (call .steps) (call .gap) ws) is words)
+      (subst (λ (picture : List ℕ). Pixel-pairs (call .grid) picture (kept-by call) (call .gap) pairs) is held)
       (subst (λ (picture : List ℕ). Recorded picture ws left number) is recorded)
       maps
 
@@ -97,8 +98,8 @@ module _ (call : Map-call) (lent : List ℤ) {verdict : Verdict} (judged : verdi
     contrast-long = combined-passed call lent (accepted-by judged accepted) .1
 
     module _ {shown light ws : List ℕ} (is : shown ≡ reversed (call .picture))
-        (lights : Pixel-pairs (call .grid) (call .attribute) (call .picture) (call .steps) (call .gap) light)
-        (darks : Node-pairs (call .grid) (call .attribute) shown (call .steps) (call .gap) ws) where
+        (lights : Pixel-pairs (call .grid) (call .picture) (kept-by call) (call .gap) light)
+        (darks : Node-pairs (call .grid) shown (call .kind) (call .steps) (call .gap) ws) where
       pub merge-asks : Holdable (length shown) ws (length light) × (length lent ≡ length shown)
       merge-asks = (hold-asks darks (lights .size), contrast-long ∙ sym (darks .noded .buildable .bytes))
 
@@ -112,7 +113,7 @@ module _ (call : Map-call) (lent : List ℤ) {verdict : Verdict} (judged : verdi
       unfolding combined-workspace combined-residue combined-index combined-contrast
       combined-done merging recorded maps =
           let ok : combined-verdict call lent ≡ Accepted = accepted-by judged accepted in
-          let whole = recorded .whole (call .grid) (call .attribute) (darks .number) (darks .noded) .left in
+          let whole = recorded .whole (call .grid) (list-attribute (call .kind)) (darks .number) (darks .noded) .left in
           rw
           ok (
             refl,

@@ -12,7 +12,7 @@ use Rattle.sets.proofs.Laws.{table-at, table-ext}
 use Rattle.sets.proofs.Tables.{table-long}
 use Rattle.sets.proofs.Tests.{decided}
 use Rattle.grid.specs.Pixels.{pixels}
-use Rattle.calls.specs.Calls.{residue-map, index-map, Map-call}
+use Rattle.calls.specs.Calls.{residue-map, index-map, Map-call, kept-by}
 use Rattle.calls.specs.Reversed.{reversed}
 use Rattle.calls.specs.Combined.{larger-residue, winning-index, contrast-of, light-residue, light-index, dark-residue, dark-index, combined-residues, combined-indices, combined-contrasts}
 use Rattle.calls.proofs.Combined.{chosen-larger}
@@ -20,6 +20,7 @@ use Rattle.map_passes.specs.Settle.{total-in, index-in}
 use Rattle.map_passes.specs.Passes.{pair-for}
 use Rattle.map_passes.proofs.Settling.{read-chosen}
 use Rattle.residues.specs.Sizing.{Node-pairs, Pixel-pairs}
+use Rattle.residues.proofs.Mapping.{right-maps}
 use Rattle.dark.specs.Merging.{merged}
 
 -- a merged pair has 16 bits
@@ -28,8 +29,8 @@ merged-fits light dark l d = ⊎-elim (λ e. rw e l) (λ e. rw e d) (decided (lt
 
 -- both sides are sized: `light` holds the pairs of the picture, the workspace ws those of the nodes of the reversed one
 module _ (call : Map-call) {shown light ws : List ℕ} (is : shown ≡ reversed (call .picture))
-    (lights : Pixel-pairs (call .grid) (call .attribute) (call .picture) (call .steps) (call .gap) light)
-    (darks : Node-pairs (call .grid) (call .attribute) shown (call .steps) (call .gap) ws) where
+    (lights : Pixel-pairs (call .grid) (call .picture) (kept-by call) (call .gap) light)
+    (darks : Node-pairs (call .grid) shown (call .kind) (call .steps) (call .gap) ws) where
   abbrev n : ℕ
   n = pixels (call .grid)
 
@@ -44,15 +45,18 @@ module _ (call : Map-call) {shown light ws : List ℕ} (is : shown ≡ reversed 
       subst
       (λ (picture : List ℕ).
       (q : ℕ) → q < n
-      → (total-in (dark-at q) ≡ getD (residue-map (call .grid) (call .attribute) (call .steps) (call .gap) picture) q 0)
-      × (index-in (dark-at q) ≡ getD (index-map (call .grid) (call .attribute) (call .steps) (call .gap) picture) q 0))
+      → (total-in (dark-at q) ≡ getD (residue-map (call .grid) (kept-by call) (call .gap) picture) q 0)
+      × (index-in (dark-at q) ≡ getD (index-map (call .grid) (kept-by call) (call .gap) picture) q 0))
       is
-      (darks .right)
+      (right-maps (call .grid) (kept-by call) (call .gap) shown dark-at (darks .right))
+
+  light-right : (q : ℕ) → q < n → (total-in (light-at q) ≡ light-residue call q) × (index-in (light-at q) ≡ light-index call q)
+  light-right = right-maps (call .grid) (kept-by call) (call .gap) (call .picture) light-at (lights .right)
 
   total-merged : (q : ℕ) → q < n → total-in (merged (light-at q) (dark-at q)) ≡ larger-residue (light-residue call q) (dark-residue call q)
   total-merged q b =
       read-chosen total-in (ltb (total-in (dark-at q)) (total-in (light-at q))) _ _ _ _ (λ e. refl) (λ e. refl)
-      ∙ rw (lights .right q b .0, dark-right q b .0) (chosen-larger (light-residue call q) (dark-residue call q))
+      ∙ rw (light-right q b .0, dark-right q b .0) (chosen-larger (light-residue call q) (dark-residue call q))
 
   index-merged : (q : ℕ) → q < n
       → index-in (merged (light-at q) (dark-at q)) ≡ winning-index (light-residue call q) (dark-residue call q) (light-index call q) (dark-index call q)
@@ -64,9 +68,9 @@ module _ (call : Map-call) {shown light ws : List ℕ} (is : shown ≡ reversed 
       _
       _
       _
-      (λ e. lights .right q b .1)
+      (λ e. light-right q b .1)
       (λ e. dark-right q b .1)
-      ∙ rw (lights .right q b .0, dark-right q b .0) refl
+      ∙ rw (light-right q b .0, dark-right q b .0) refl
 
   -- merged and unpacked they are the three maps
   module _ {pairs residue index : List ℕ} {contrast : List ℤ}
@@ -100,4 +104,4 @@ module _ (call : Map-call) {shown light ws : List ℕ} (is : shown ≡ reversed 
         table k (λ (q : ℕ). contrast-of (total-in (light-at q)) (total-in (dark-at q)))
         ≡ table n (λ (q : ℕ). contrast-of (light-residue call q) (dark-residue call q)))
         (sym size)
-        (table-ext n _ _ (λ q b. rw (lights .right q b .0, dark-right q b .0) refl))
+        (table-ext n _ _ (λ q b. rw (light-right q b .0, dark-right q b .0) refl))

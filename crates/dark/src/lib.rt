@@ -11,6 +11,7 @@ ghost use Rattle.calls.specs.Combined.{contrast-of, combined-verdict, combined-
 ghost use Rattle.map_passes.specs.Settle.{total-in};
 ghost use Rattle.map_passes.specs.Passes.{pair-for, Holdable};
 ghost use Rattle.dark.specs.Merging.{merged};
+use calls::Kind;
 use grid::Grid;
 
 // The reversed picture: 255 less each grey.
@@ -62,7 +63,7 @@ fn merge(n: usize, ws: &[u32], pairs: &mut [u16], contrasts: &mut [i16])
 pub fn dark_map(
     picture: &[u8],
     grid: Grid,
-    attribute: u32,
+    kind: Kind,
     steps: &[u32],
     gap: u32,
     workspace: &mut [u32],
@@ -70,15 +71,15 @@ pub fn dark_map(
     index: &mut [u16],
 ) -> calls::Verdict
     ensures answer { λ r. ⌜ verdict-numbers r ≡
-        verdict-numbers (map-verdict (reversed-call (map-call picture grid attribute steps gap workspace residue index))) ⌝ }
-    ensures workspace { λ _. ⌜ now (workspace .exit) ≡ map-workspace (reversed-call (map-call picture grid attribute steps gap workspace residue index)) ⌝ }
-    ensures residue { λ _. ⌜ now (residue .exit) ≡ map-residue (reversed-call (map-call picture grid attribute steps gap workspace residue index)) ⌝ }
-    ensures index { λ _. ⌜ now (index .exit) ≡ map-index (reversed-call (map-call picture grid attribute steps gap workspace residue index)) ⌝ }
+        verdict-numbers (map-verdict (reversed-call (map-call picture grid kind steps gap workspace residue index))) ⌝ }
+    ensures workspace { λ _. ⌜ now (workspace .exit) ≡ map-workspace (reversed-call (map-call picture grid kind steps gap workspace residue index)) ⌝ }
+    ensures residue { λ _. ⌜ now (residue .exit) ≡ map-residue (reversed-call (map-call picture grid kind steps gap workspace residue index)) ⌝ }
+    ensures index { λ _. ⌜ now (index .exit) ≡ map-index (reversed-call (map-call picture grid kind steps gap workspace residue index)) ⌝ }
 {
     let verdict = calls::judge_sizing(
         grid,
         picture.len(),
-        attribute,
+        kind,
         steps,
         gap,
         workspace.len(),
@@ -91,7 +92,7 @@ pub fn dark_map(
         }
         calls::Verdict::Accepted => {
             reverse(picture, residue);
-            residues::size(residue, grid, attribute, steps, gap, workspace, index);
+            residues::size(residue, grid, kind, steps, gap, workspace, index);
             max_tree::write_whole(residue, workspace);
             map_passes::unpack(residue, index);
             return calls::Verdict::Accepted;
@@ -104,7 +105,7 @@ pub fn dark_map(
 pub fn combined_map(
     picture: &[u8],
     grid: Grid,
-    attribute: u32,
+    kind: Kind,
     steps: &[u32],
     gap: u32,
     workspace: &mut [u32],
@@ -113,20 +114,20 @@ pub fn combined_map(
     contrast: &mut [i16],
 ) -> calls::Verdict
     ensures answer { λ r. ⌜ verdict-numbers r ≡
-        verdict-numbers (combined-verdict (map-call picture grid attribute steps gap workspace residue index) (now (contrast .entry))) ⌝ }
+        verdict-numbers (combined-verdict (map-call picture grid kind steps gap workspace residue index) (now (contrast .entry))) ⌝ }
     ensures workspace { λ _. ⌜ now (workspace .exit) ≡
-        combined-workspace (map-call picture grid attribute steps gap workspace residue index) (now (contrast .entry)) ⌝ }
+        combined-workspace (map-call picture grid kind steps gap workspace residue index) (now (contrast .entry)) ⌝ }
     ensures residue { λ _. ⌜ now (residue .exit) ≡
-        combined-residue (map-call picture grid attribute steps gap workspace residue index) (now (contrast .entry)) ⌝ }
+        combined-residue (map-call picture grid kind steps gap workspace residue index) (now (contrast .entry)) ⌝ }
     ensures index { λ _. ⌜ now (index .exit) ≡
-        combined-index (map-call picture grid attribute steps gap workspace residue index) (now (contrast .entry)) ⌝ }
+        combined-index (map-call picture grid kind steps gap workspace residue index) (now (contrast .entry)) ⌝ }
     ensures contrast { λ _. ⌜ now (contrast .exit) ≡
-        combined-contrast (map-call picture grid attribute steps gap workspace residue index) (now (contrast .entry)) ⌝ }
+        combined-contrast (map-call picture grid kind steps gap workspace residue index) (now (contrast .entry)) ⌝ }
 {
     let sizing = calls::judge_sizing(
         grid,
         picture.len(),
-        attribute,
+        kind,
         steps,
         gap,
         workspace.len(),
@@ -143,9 +144,9 @@ pub fn combined_map(
             return calls::Verdict::Refused(first);
         }
         calls::Verdict::Accepted => {
-            residues::size(picture, grid, attribute, steps, gap, workspace, index);
+            residues::size(picture, grid, kind, steps, gap, workspace, index);
             reverse(picture, residue);
-            residues::settle(residue, grid, attribute, steps, gap, workspace);
+            residues::settle(residue, grid, kind, steps, gap, workspace);
             merge(residue.len(), workspace, index, contrast);
             max_tree::write_whole(residue, workspace);
             map_passes::unpack(residue, index);

@@ -24,7 +24,7 @@ use Rattle.calls.proofs.Steps.{everything, list-narrow, list-few}
 use Rattle.max_tree.specs.Building.{Noded, Recordable, Recorded}
 use Rattle.max_tree.proofs.Assembly.{rebuildable}
 use Rattle.map_passes.specs.Settle.{total-in, index-in}
-use Rattle.map_passes.specs.Passes.{Given, pair-for, Holdable, Paired}
+use Rattle.map_passes.specs.Passes.{Given, pair-for, Right-pairs, Holdable, Paired}
 use Rattle.map_passes.proofs.Climbing.{nodes-climbable}
 use Rattle.map_passes.proofs.Keeping.{nodes-kept}
 use Rattle.placing.specs.Placing.{Placed}
@@ -88,6 +88,13 @@ module _ {grid : Grid} {kind : Kind} {gap : ℕ} {picture steps ws : List ℕ} (
 
   pub record-asks : Recordable picture ws
   record-asks = record { grid = grid; attribute = list-attribute kind; number = words .number; noded = words .noded }
+
+-- right pairs hold the entries of both maps
+pub right-maps : (grid : Grid) (tests : List Keeps) (gap : ℕ) (picture : List ℕ) (pair : ℕ → ℕ) → Right-pairs grid tests gap picture pair
+    → (q : ℕ) → q < pixels grid
+    → (total-in (pair q) ≡ getD (residue-map grid tests gap picture) q 0) × (index-in (pair q) ≡ getD (index-map grid tests gap picture) q 0)
+unfolding residue-map index-map
+right-maps grid tests gap picture pair right q b = (right q b .0 ∙ sym (table-at (pixels grid) _ q 0 b), right q b .1 ∙ sym (table-at (pixels grid) _ q 0 b))
 
 -- the maps of the pairs of the pixels
 pub unpacked : {grid : Grid} {tests : List Keeps} {gap : ℕ} {picture pairs residue index : List ℕ} → Pixel-pairs grid picture tests gap pairs

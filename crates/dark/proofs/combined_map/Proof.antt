@@ -16,7 +16,7 @@ use Rattle.dark.proofs.combined_map.Tie as tie
 abbrev call : tie.After-also → Map-call
 call c =
     let a = c .before .before .before .before .before .before .before .before .args in
-    mapping-of (now (a .picture)) (a .grid) (a .attribute) (now (a .steps)) (a .gap) (now (a .workspace)) (now (a .residue)) (now (a .index))
+    mapping-of (now (a .picture)) (a .grid) (a .kind) (now (a .steps)) (a .gap) (now (a .workspace)) (now (a .residue)) (now (a .index))
 
 abbrev lent : tie.After-also → List ℤ
 lent c = now (c .before .before .before .before .before .before .before .before .args .contrast)

@@ -12,7 +12,7 @@ use Rattle.dark.proofs.dark_map.Tie as tie
 abbrev call : tie.After-judge-sizing → Map-call
 call c =
     let a = c .before .before .before .before .before .before .args in
-    mapping-of (now (a .picture)) (a .grid) (a .attribute) (now (a .steps)) (a .gap) (now (a .workspace)) (now (a .residue)) (now (a .index))
+    mapping-of (now (a .picture)) (a .grid) (a .kind) (now (a .steps)) (a .gap) (now (a .workspace)) (now (a .residue)) (now (a .index))
 
 judge-sizing-requires : tie.Need-judge-sizing-requires
 judge-sizing-requires c κs = search needs
