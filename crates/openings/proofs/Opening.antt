@@ -131,8 +131,8 @@ module _ {grid : Grid} {t : Triple} {picture lent output : List ℕ} (asks : Ope
         let bytes = asks .buildable .bytes in (
           recorded .whole grid 1 (settled .number) (settled .noded) .left,
           is
-          ∙ ap (λ (k : ℕ). table k (λ (q : ℕ). less-its-fall picture ws q)) bytes
-          ∙ table-ext n _ _ (λ q b. omega (arith, fall-is q b, opened-le n (adjacent grid) (meets grid t) (grey picture) q b)),
+              ∙ ap (λ (k : ℕ). table k (λ (q : ℕ). less-its-fall picture ws q)) bytes
+              ∙ table-ext n _ _ (λ q b. omega (arith, fall-is q b, opened-le n (adjacent grid) (meets grid t) (grey picture) q b)),
         )
 
 -- by either

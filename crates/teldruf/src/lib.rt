@@ -13,9 +13,10 @@ ghost use Rattle.calls.specs.Reversed.{reversed-call};
 ghost use Rattle.calls.specs.Combined.{combined-verdict, combined-workspace, combined-residue, combined-index, combined-contrast};
 ghost use Rattle.viewer.specs.View.{view-call, viewed, viewed-numbers};
 ghost use Rattle.teldruf.specs.Codes.{code-of, number-code, head-with};
-ghost use Rattle.teldruf.specs.Parameters.{build-by, open-by, map-by};
+ghost use Rattle.teldruf.specs.Parameters.{build-by, open-by, open-triple-by, map-by, triples-by};
 use causes::Cause;
 use grid::Grid;
+use grid::Triple;
 
 fn refused(cause: Cause) -> u64
     ensures { λ r. ⌜ r ≡ code-of (number-of cause ∷ []) ⌝ }
@@ -115,8 +116,44 @@ pub extern "C" fn teldruf_open(
             height,
             neighbours,
         },
-        attribute,
-        threshold,
+        calls::Step::Threshold(attribute, threshold),
+        workspace,
+        output,
+    ) {
+        calls::Verdict::Accepted => 0,
+        calls::Verdict::Refused(cause) => refused(cause),
+    }
+}
+
+// Opens a picture by a triple into the output: what stays has the area, so many rows and so many columns or more.
+#[no_mangle]
+pub extern "C" fn teldruf_open_triple(
+    picture: &[u8],
+    width: u32,
+    height: u32,
+    neighbours: u32,
+    area: u32,
+    rows: u32,
+    columns: u32,
+    workspace: &mut [u32],
+    output: &mut [u8],
+) -> u64
+    ensures answer { λ r. ⌜ r ≡ code-of (verdict-numbers (open-verdict (open-triple-by picture width height neighbours area rows columns workspace output))) ⌝ }
+    ensures workspace { λ _. ⌜ now (workspace .exit) ≡ open-workspace (open-triple-by picture width height neighbours area rows columns workspace output) ⌝ }
+    ensures output { λ _. ⌜ now (output .exit) ≡ open-output (open-triple-by picture width height neighbours area rows columns workspace output) ⌝ }
+{
+    match openings::open(
+        picture,
+        Grid {
+            width,
+            height,
+            neighbours,
+        },
+        calls::Step::Three(Triple {
+            area,
+            height: rows,
+            width: columns,
+        }),
         workspace,
         output,
     ) {
@@ -151,7 +188,44 @@ pub extern "C" fn teldruf_map(
             height,
             neighbours,
         },
-        attribute,
+        calls::Kind::Thresholds(attribute),
+        steps,
+        gap,
+        workspace,
+        residue,
+        index,
+    ) {
+        calls::Verdict::Accepted => 0,
+        calls::Verdict::Refused(cause) => refused(cause),
+    }
+}
+
+// Writes the residue map and the index map of a picture for a list of triples, three words to a step.
+#[no_mangle]
+pub extern "C" fn teldruf_map_triples(
+    picture: &[u8],
+    width: u32,
+    height: u32,
+    neighbours: u32,
+    steps: &[u32],
+    gap: u32,
+    workspace: &mut [u32],
+    residue: &mut [u8],
+    index: &mut [u16],
+) -> u64
+    ensures answer { λ r. ⌜ r ≡ code-of (verdict-numbers (map-verdict (triples-by picture width height neighbours steps gap workspace residue index))) ⌝ }
+    ensures workspace { λ _. ⌜ now (workspace .exit) ≡ map-workspace (triples-by picture width height neighbours steps gap workspace residue index) ⌝ }
+    ensures residue { λ _. ⌜ now (residue .exit) ≡ map-residue (triples-by picture width height neighbours steps gap workspace residue index) ⌝ }
+    ensures index { λ _. ⌜ now (index .exit) ≡ map-index (triples-by picture width height neighbours steps gap workspace residue index) ⌝ }
+{
+    match residues::map(
+        picture,
+        Grid {
+            width,
+            height,
+            neighbours,
+        },
+        calls::Kind::Triples,
         steps,
         gap,
         workspace,
@@ -193,7 +267,48 @@ pub extern "C" fn teldruf_dark_map(
             height,
             neighbours,
         },
-        attribute,
+        calls::Kind::Thresholds(attribute),
+        steps,
+        gap,
+        workspace,
+        residue,
+        index,
+    ) {
+        calls::Verdict::Accepted => 0,
+        calls::Verdict::Refused(cause) => refused(cause),
+    }
+}
+
+// Writes those of dark floc for a list of triples.
+#[no_mangle]
+pub extern "C" fn teldruf_dark_map_triples(
+    picture: &[u8],
+    width: u32,
+    height: u32,
+    neighbours: u32,
+    steps: &[u32],
+    gap: u32,
+    workspace: &mut [u32],
+    residue: &mut [u8],
+    index: &mut [u16],
+) -> u64
+    ensures answer { λ r. ⌜ r ≡
+        code-of (verdict-numbers (map-verdict (reversed-call (triples-by picture width height neighbours steps gap workspace residue index)))) ⌝ }
+    ensures workspace { λ _. ⌜ now (workspace .exit) ≡
+        map-workspace (reversed-call (triples-by picture width height neighbours steps gap workspace residue index)) ⌝ }
+    ensures residue { λ _. ⌜ now (residue .exit) ≡
+        map-residue (reversed-call (triples-by picture width height neighbours steps gap workspace residue index)) ⌝ }
+    ensures index { λ _. ⌜ now (index .exit) ≡
+        map-index (reversed-call (triples-by picture width height neighbours steps gap workspace residue index)) ⌝ }
+{
+    match dark::dark_map(
+        picture,
+        Grid {
+            width,
+            height,
+            neighbours,
+        },
+        calls::Kind::Triples,
         steps,
         gap,
         workspace,
@@ -238,7 +353,52 @@ pub extern "C" fn teldruf_combined_map(
             height,
             neighbours,
         },
-        attribute,
+        calls::Kind::Thresholds(attribute),
+        steps,
+        gap,
+        workspace,
+        residue,
+        index,
+        contrast,
+    ) {
+        calls::Verdict::Accepted => 0,
+        calls::Verdict::Refused(cause) => refused(cause),
+    }
+}
+
+// Writes those of light and dark floc together, with the contrast map, for a list of triples.
+#[no_mangle]
+pub extern "C" fn teldruf_combined_map_triples(
+    picture: &[u8],
+    width: u32,
+    height: u32,
+    neighbours: u32,
+    steps: &[u32],
+    gap: u32,
+    workspace: &mut [u32],
+    residue: &mut [u8],
+    index: &mut [u16],
+    contrast: &mut [i16],
+) -> u64
+    ensures answer { λ r. ⌜ r ≡ code-of (verdict-numbers
+        (combined-verdict (triples-by picture width height neighbours steps gap workspace residue index) (now (contrast .entry)))) ⌝ }
+    ensures workspace { λ _. ⌜ now (workspace .exit) ≡
+        combined-workspace (triples-by picture width height neighbours steps gap workspace residue index) (now (contrast .entry)) ⌝ }
+    ensures residue { λ _. ⌜ now (residue .exit) ≡
+        combined-residue (triples-by picture width height neighbours steps gap workspace residue index) (now (contrast .entry)) ⌝ }
+    ensures index { λ _. ⌜ now (index .exit) ≡
+        combined-index (triples-by picture width height neighbours steps gap workspace residue index) (now (contrast .entry)) ⌝ }
+    ensures contrast { λ _. ⌜ now (contrast .exit) ≡
+        combined-contrast (triples-by picture width height neighbours steps gap workspace residue index) (now (contrast .entry)) ⌝ }
+{
+    match dark::combined_map(
+        picture,
+        Grid {
+            width,
+            height,
+            neighbours,
+        },
+        calls::Kind::Triples,
         steps,
         gap,
         workspace,
