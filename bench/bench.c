@@ -7,7 +7,8 @@
  *   bench [area|height|width] [RUNS] [4|8]
  *
  * Without a number of neighbours there is a table for each. A call is compared with another of the library's own too: a map with a gap with
- * the one at gap 0, the dark map with the map of the reversed picture, the combined map with the map.
+ * the one at gap 0, the dark map with the map of the reversed picture, the combined map with the map, and so the map by triples, which names
+ * no attribute.
  */
 #include "bench.h"
 #include "teldruf.h"
@@ -19,8 +20,8 @@
 /* A camera sends a picture in so many seconds, and so many cameras are to be served. */
 enum { CAMERA_SECONDS = 20, CAMERAS = 212 };
 
-/* What a dark map may take of the time of a map, and a combined one. */
-static const double DARK_AT_MOST = 1.05, COMBINED_AT_MOST = 2.1;
+/* What a dark map may take of the time of a map, a combined one, and one by triples, of a map by area. */
+static const double DARK_AT_MOST = 1.05, COMBINED_AT_MOST = 2.1, TRIPLES_AT_MOST = 1.6;
 
 /* The most neighbours that the earlier library knows, 0 without one, and how many of the calls. */
 #ifndef BEFORE
@@ -36,16 +37,28 @@ static const char *const attributes[] = {"area", "height", "width"};
 /* How many of the ways run: the earlier library where it knows the neighbours named and the call. */
 static int ways_with(uint32_t neighbours, int part) { return neighbours <= BEFORE && part < BEFORE_PARTS ? WAYS : EARLIER; }
 
-static uint64_t c_call(record_fn *record, map_fn *map, map_fn *combined, int part, const picture_t *p, uint32_t attribute, result_t *r) {
+/* The calls of a way in C. */
+typedef struct {
+    record_fn *record;
+    map_fn *map, *combined;
+    triples_fn *triples;
+} calls_t;
+
+static const calls_t flooding = {flood_record, flood_map, flood_combined, flood_triples};
+static const calls_t joining = {join_record, join_map, join_combined, join_triples};
+
+static uint64_t c_call(const calls_t *calls, int part, const picture_t *p, uint32_t attribute, result_t *r) {
     if (part == BUILD)
-        return c_build(record, p, attribute, r->ws);
+        return c_build(calls->record, p, attribute, r->ws);
     if (part == OPENING) {
-        c_open(record, p, attribute, THRESHOLD, r->ws, r->output);
+        c_open(calls->record, p, attribute, THRESHOLD, r->ws, r->output);
     } else if (part == DARK) {
         picture_t reversed = reversed_in(p, r);
-        map(&reversed, attribute, steps, STEPS, gaps[part], r);
+        calls->map(&reversed, attribute, steps, STEPS, gaps[part], r);
+    } else if (part == TRIPLES) {
+        calls->triples(p, triples, STEPS, gaps[part], r);
     } else {
-        (part == COMBINED ? combined : map)(p, attribute, steps, STEPS, gaps[part], r);
+        (part == COMBINED ? calls->combined : calls->map)(p, attribute, steps, STEPS, gaps[part], r);
     }
     return 0;
 }
@@ -57,8 +70,7 @@ static uint64_t call(int way, int part, const picture_t *picture, uint32_t attri
     if (way == EARLIER)
         return before_call(part, picture, attribute, r);
 #endif
-    return way == FLOOD ? c_call(flood_record, flood_map, flood_combined, part, picture, attribute, r)
-                        : c_call(join_record, join_map, join_combined, part, picture, attribute, r);
+    return c_call(way == FLOOD ? &flooding : &joining, part, picture, attribute, r);
 }
 
 static double timed(int way, int part, const picture_t *picture, uint32_t attribute, result_t *r) {
@@ -154,8 +166,9 @@ static int run_table(uint32_t attribute, uint32_t neighbours, int runs, result_t
     int differing = 0;
     printf("%d pixels, %u neighbours, %s, opening at %d, map with %d steps and at a gap; ms, least of %d\n", PIXELS, (unsigned)neighbours,
            attributes[attribute - 1], THRESHOLD, STEPS, runs);
-    printf("asked for: dark at most %.2f of reversed, combined %.1f of map, %d cameras a core with combined maps\n", DARK_AT_MOST,
-           COMBINED_AT_MOST, CAMERAS);
+    printf("asked for: dark at most %.2f of reversed, combined %.1f of map, triples %.1f of map by area, %d cameras a core with combined "
+           "maps\n",
+           DARK_AT_MOST, COMBINED_AT_MOST, TRIPLES_AT_MOST, CAMERAS);
     printf("%-13s %-8s %9s %9s %9s   %8s %8s %8s", "picture", "call", "library", "flooding", "union", "to flood", "to union", "to own");
     puts(ways_with(neighbours, BUILD) > EARLIER ? "   earlier  to that" : "");
     for (int k = 0; k < KINDS; k++)

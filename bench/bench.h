@@ -7,14 +7,15 @@
 #include <stdint.h>
 
 enum { AREA = 1, HEIGHT = 2, WIDTH = 3, FRAME = 1048577 };
-enum { BUILD, OPENING, MAP, MAP_4, MAP_256, REVERSED, DARK, COMBINED, PARTS };
+enum { BUILD, OPENING, MAP, MAP_4, MAP_256, REVERSED, DARK, COMBINED, TRIPLES, PARTS };
 enum { STEPS = 256, THRESHOLD = 40, SIDE = 1024, PIXELS = SIDE * SIDE, KINDS = 6 };
 
 /*
  * What every call is given, once steps_make is called, the kinds of pictures, and the calls: their names, the gaps of the maps, and with
- * which call of the same library one is compared, 0 for none. REVERSED is the map of the reversed picture, which it must be given.
+ * which call of the same library one is compared, 0 for none. REVERSED is the map of the reversed picture, which it must be given. Triples
+ * are three words to a step: area, height, width; the areas are the steps.
  */
-extern uint32_t steps[STEPS];
+extern uint32_t steps[STEPS], triples[3 * STEPS];
 extern const char *const kinds[KINDS];
 extern const char *const parts[PARTS];
 extern const uint32_t gaps[PARTS];
@@ -79,6 +80,14 @@ void clear(const picture_t *picture, uint32_t nodes, uint32_t *ws);
 typedef void map_fn(const picture_t *picture, uint32_t attribute, const uint32_t *steps, size_t count, uint32_t gap, result_t *result);
 
 map_fn flood_map, flood_combined, join_map, join_combined;
+
+/* The map by so many triples, which leaves areas in the record. */
+typedef void triples_fn(const picture_t *picture, const uint32_t *triples, size_t count, uint32_t gap, result_t *result);
+
+triples_fn flood_triples, join_triples;
+
+/* One part of each triple, as steps, of which there are at most STEPS. */
+void part_steps(const uint32_t *triples, size_t count, uint32_t attribute, uint32_t steps[STEPS]);
 
 /* The reversed picture, in the residue map. */
 picture_t reversed_in(const picture_t *picture, result_t *result);

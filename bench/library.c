@@ -17,6 +17,9 @@ uint64_t LIBRARY_CALL(int part, const picture_t *p, uint32_t attribute, result_t
     if (part == COMBINED)
         return teldruf_combined_map(p->greys, n, p->width, p->height, attribute, p->neighbours, steps, STEPS, gaps[part], r->ws, words,
                                     r->residue, n, r->index, n, r->contrast, n);
+    if (part == TRIPLES)
+        return teldruf_map_triples(p->greys, n, p->width, p->height, p->neighbours, triples, 3 * STEPS, gaps[part], r->ws, words,
+                                   r->residue, n, r->index, n);
     return teldruf_map(p->greys, n, p->width, p->height, attribute, p->neighbours, steps, STEPS, gaps[part], r->ws, words, r->residue,
                        n, r->index, n);
 }

@@ -21,10 +21,12 @@ most() {
 }
 
 # known ROOT: how many of the calls the library of a checkout knows, by their names in bench.h: those before the first map with a gap, those
-# before the dark map, or all
+# before the dark map, those before the map by triples, or all
 known() {
-    if grep -q TELDRUF_DARK "$1/include/teldruf.h"; then
+    if grep -q teldruf_map_triples "$1/include/teldruf.h"; then
         echo PARTS
+    elif grep -q TELDRUF_DARK "$1/include/teldruf.h"; then
+        echo TRIPLES
     elif grep -q TELDRUF_GAP "$1/include/teldruf.h"; then
         echo DARK
     else

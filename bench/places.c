@@ -2,7 +2,7 @@
  * Two libraries, each at four places of the program, called in turn on pictures of 1,048,576 pixels by area. Prints for each call the ratio
  * of their times, each the mean over its places of the median of the rounds, and the least and the largest ratio of two places; and the
  * same against another call, both of the later library: of a map with a gap against the map at gap 0, of the dark map against the map of the
- * reversed picture, of the combined map against the map.
+ * reversed picture, of the combined map and of the map by triples against the map.
  *
  *   places [ROUNDS] [4|8]
  */

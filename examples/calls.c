@@ -1,14 +1,15 @@
 /*
  * Each call of the library, on a row of five pixels in a ring, so that only the root touches the frame: what a host in C lends, and what it
  * finds afterwards. Prints the picture that it reads, its tree, an opening, the maps at two gaps, and refusals; then, for bright floc with
- * a darker pit, the maps of each side and of both, a row viewed in each side's, and refusals. examples/run holds what is printed to
- * calls.txt.
+ * a darker pit, the maps of each side and of both, a row viewed in each side's, and refusals; then, for threads and floc, an opening by a
+ * triple, the maps by triples of each side and of both, and refusals. examples/run holds what is printed to calls.txt.
  */
 #include "teldruf.h"
 
 #include <stdio.h>
 
 enum { N = 21, PITTED_SIDE = 5, PITTED_N = PITTED_SIDE * PITTED_SIDE };
+enum { THREADS_WIDTH = 7, THREADS_HEIGHT = 6, THREADS_N = THREADS_WIDTH * THREADS_HEIGHT };
 
 static const uint8_t file[] = "P5\n7 3\n255\n"
                               "\x0a\x0a\x0a\x0a\x0a\x0a\x0a"
@@ -21,6 +22,16 @@ static const uint8_t pitted[PITTED_N] = {
     20, 80, 50, 80, 20,
     20, 80, 80, 80, 20,
     20, 20, 20, 20, 20,
+};
+
+/* A light thread that stands, a dark one that lies, and light floc with a speck. */
+static const uint8_t threads[THREADS_N] = {
+    100, 100, 100, 100, 100, 100, 100,
+    100, 130, 100, 60,  60,  60,  100,
+    100, 130, 100, 100, 100, 100, 100,
+    100, 130, 100, 150, 150, 100, 100,
+    100, 100, 100, 150, 190, 100, 100,
+    100, 100, 100, 100, 100, 100, 100,
 };
 
 static void bytes(const char *name, const uint8_t *entries, size_t count) {
@@ -41,6 +52,13 @@ static void indices(const uint16_t *entries, size_t count) {
     printf("index");
     for (size_t i = 0; i < count; i++)
         printf(" %u", (unsigned)entries[i]);
+    printf("\n");
+}
+
+static void contrasts(const int16_t *entries, size_t count) {
+    printf("contrast");
+    for (size_t i = 0; i < count; i++)
+        printf(" %d", entries[i]);
     printf("\n");
 }
 
@@ -86,10 +104,7 @@ static void both_sides(void) {
     printf("combined map %u\n", (unsigned)teldruf_cause(answer));
     bytes("residue", residue, PITTED_N);
     indices(index, PITTED_N);
-    printf("contrast");
-    for (size_t p = 0; p < PITTED_N; p++)
-        printf(" %d", contrast[p]);
-    printf("\n");
+    contrasts(contrast, PITTED_N);
     words("attributes", workspace + PITTED_N, PITTED_N);
 
     refused(teldruf_combined_map(pitted, PITTED_N, PITTED_SIDE, PITTED_SIDE, TELDRUF_AREA, TELDRUF_EDGES, steps, 2, 0, workspace,
@@ -100,6 +115,61 @@ static void both_sides(void) {
     view(light, dark, PITTED_N, 5, TELDRUF_LIGHT);
     view(light, dark, PITTED_N, 2, 3);
     view(light, dark, PITTED_N - 1, 5, 3); /* 6 before 16 */
+}
+
+/* Each step removes one thing more: the speck by area, the thread that lies by height, the one that stands by width, the floc by area. */
+static void by_triples(void) {
+    const uint32_t steps[] = {2, 0, 0, 2, 2, 0, 2, 2, 2, 5, 2, 2}, falling[] = {2, 2, 0, 3, 1, 0};
+    const size_t steps_len = 4 * TELDRUF_WORDS_A_TRIPLE, workspace_len = TELDRUF_WORDS_A_PIXEL * THREADS_N;
+    uint32_t workspace[TELDRUF_WORDS_A_PIXEL * THREADS_N] = {0};
+    uint8_t output[THREADS_N], residue[THREADS_N];
+    uint16_t index[THREADS_N];
+    int16_t contrast[THREADS_N];
+
+    uint64_t answer = teldruf_open_triple(threads, THREADS_N, THREADS_WIDTH, THREADS_HEIGHT, TELDRUF_EDGES, 2, 2, 2, workspace,
+                                          workspace_len, output, THREADS_N);
+    printf("open by triple %u\n", (unsigned)teldruf_cause(answer));
+    bytes("opened", output, THREADS_N);
+    words("attributes", workspace + THREADS_N, THREADS_N);
+
+    for (uint32_t gap = 0; gap <= 3; gap += 3) {
+        answer = teldruf_map_triples(threads, THREADS_N, THREADS_WIDTH, THREADS_HEIGHT, TELDRUF_CORNERS, steps, steps_len, gap, workspace,
+                                     workspace_len, residue, THREADS_N, index, THREADS_N);
+        printf("map by triples %u at gap %u\n", (unsigned)teldruf_cause(answer), (unsigned)gap);
+        bytes("residue", residue, THREADS_N);
+        indices(index, THREADS_N);
+    }
+    words("attributes", workspace + THREADS_N, THREADS_N);
+
+    answer = teldruf_dark_map_triples(threads, THREADS_N, THREADS_WIDTH, THREADS_HEIGHT, TELDRUF_EDGES, steps, steps_len, 0, workspace,
+                                      workspace_len, residue, THREADS_N, index, THREADS_N);
+    printf("dark map by triples %u\n", (unsigned)teldruf_cause(answer));
+    bytes("residue", residue, THREADS_N);
+    indices(index, THREADS_N);
+    words("attributes", workspace + THREADS_N, THREADS_N);
+
+    answer = teldruf_combined_map_triples(threads, THREADS_N, THREADS_WIDTH, THREADS_HEIGHT, TELDRUF_EDGES, steps, steps_len, 0, workspace,
+                                          workspace_len, residue, THREADS_N, index, THREADS_N, contrast, THREADS_N);
+    printf("combined map by triples %u\n", (unsigned)teldruf_cause(answer));
+    bytes("residue", residue, THREADS_N);
+    indices(index, THREADS_N);
+    contrasts(contrast, THREADS_N);
+    words("attributes", workspace + THREADS_N, THREADS_N);
+
+    for (uint32_t neighbours = 5; neighbours >= TELDRUF_EDGES; neighbours--)
+        refused(teldruf_open_triple(threads, THREADS_N, THREADS_WIDTH, THREADS_HEIGHT, neighbours, 0, 0, 0, workspace, workspace_len,
+                                    output, THREADS_N));
+    /* The last step is cut short; then a height falls. */
+    refused(teldruf_map_triples(threads, THREADS_N, THREADS_WIDTH, THREADS_HEIGHT, TELDRUF_EDGES, steps, steps_len - 1,
+                                TELDRUF_MOST_GAP + 1, workspace, workspace_len, residue, THREADS_N, index, THREADS_N));
+    refused(teldruf_dark_map_triples(threads, THREADS_N, THREADS_WIDTH, THREADS_HEIGHT, TELDRUF_EDGES, falling, 6, 0, workspace,
+                                     workspace_len, residue, THREADS_N, index, THREADS_N));
+    /* A gap that is too large, a workspace that is too short, a contrast that is too short. */
+    for (int right = 0; right < 3; right++)
+        refused(teldruf_combined_map_triples(threads, THREADS_N, THREADS_WIDTH, THREADS_HEIGHT, TELDRUF_EDGES, steps, steps_len,
+                                             right > 0 ? TELDRUF_MOST_GAP : TELDRUF_MOST_GAP + 1, workspace,
+                                             right > 1 ? workspace_len : THREADS_N, residue, THREADS_N, index, THREADS_N, contrast,
+                                             THREADS_N - 1));
 }
 
 int main(void) {
@@ -145,5 +215,6 @@ int main(void) {
         refused(teldruf_map(picture, N, head[0], head[1], TELDRUF_AREA, TELDRUF_EDGES, steps, right > 0 ? 4 : 0,
                             right > 1 ? TELDRUF_MOST_GAP : TELDRUF_MOST_GAP + 1, workspace, N, residue, N, index, N));
     both_sides();
+    by_triples();
     return 0;
 }

@@ -10,13 +10,14 @@ import sys
 import tempfile
 import unittest
 import zlib
+from operator import ge
 from random import Random
 
 HERE = os.path.dirname(os.path.abspath(__file__))
 sys.path.insert(0, os.path.join(HERE, os.pardir, "python"))
 import index_to_png
 import teldruf
-from teldruf import Picture
+from teldruf import Picture, Triple
 
 try:
     import numpy
@@ -72,6 +73,31 @@ DARK = bytes(ringed(0, [0, 0, 0], [0, 30, 0], [0, 0, 0])), ringed(0, [0, 0, 0], 
 COMBINED = LIGHT[0], ringed(0, [2, 2, 2], [2, 1, 2], [2, 2, 2]), ringed(0, [60, 60, 60], [60, -30, 60], [60, 60, 60])
 
 
+# A light thread that stands, a dark one that lies and light floc with a speck, in a ring. The speck falls at the first triple, by its area,
+# the thread that lies at the second, by its height, the one that stands at the third, by its width, the floc at the fourth, by its area.
+THREADS = Picture(7, 6, 255, bytes(ringed(
+    100, [130, 100, 60, 60, 60], [130, 100, 100, 100, 100], [130, 100, 150, 150, 100], [100, 100, 150, 190, 100])))
+TRIPLES = [(2, 0, 0), (2, 2, 0), (2, 2, 2), (5, 2, 2)]
+OPENED_BY_2_2_2 = bytes(ringed(100, [100, 100, 60, 60, 60], [100] * 5, [100, 100, 150, 150, 100], [100, 100, 150, 150, 100]))
+LIGHT_THREADS = (
+    bytes(ringed(0, [30, 0, 0, 0, 0], [30, 0, 0, 0, 0], [30, 0, 50, 50, 0], [0, 0, 50, 50, 0])),
+    ringed(0, [3, 0, 0, 0, 0], [3, 0, 0, 0, 0], [3, 0, 4, 4, 0], [0, 0, 4, 4, 0]),
+)
+JOINED_THREADS = (  # at a gap of 3 or more
+    bytes(ringed(0, [30, 0, 0, 0, 0], [30, 0, 0, 0, 0], [30, 0, 50, 50, 0], [0, 0, 50, 90, 0])),
+    LIGHT_THREADS[1],
+)
+DARK_THREADS = (
+    bytes(ringed(0, [0, 0, 40, 40, 40], [0] * 5, [0] * 5, [0] * 5)),
+    ringed(0, [0, 0, 2, 2, 2], [0] * 5, [0] * 5, [0] * 5),
+)
+COMBINED_THREADS = (
+    bytes(ringed(0, [30, 0, 40, 40, 40], [30, 0, 0, 0, 0], [30, 0, 50, 50, 0], [0, 0, 50, 50, 0])),
+    ringed(0, [3, 0, 2, 2, 2], [3, 0, 0, 0, 0], [3, 0, 4, 4, 0], [0, 0, 4, 4, 0]),
+    ringed(0, [30, 0, -40, -40, -40], [30, 0, 0, 0, 0], [30, 0, 50, 50, 0], [0, 0, 50, 50, 0]),
+)
+
+
 def listed(maps):
     """Residue, index and contrast as they stand above."""
     return (maps[0], *(list(entries) for entries in maps[1:]))
@@ -100,6 +126,66 @@ def random_call(random):
     picture = Picture(width + 2, height + 2, 255, bytes(ringed(random.choice((0, 3, 255)), *rows)))
     words = {"attribute": random.randint(1, 3), "neighbours": random.choice((4, 8))}
     return picture, sorted(random.sample(range(1, 20), count)), random.choice((0, 1, 2, 3, 5, 256)), words
+
+
+def random_triples(random, count):
+    """So many triples: no part falls, and at least one rises."""
+    triples, last = [], (0, 0, 0)
+    while len(triples) < count:
+        triple = tuple(part + random.choice((0, 0, 0, 1, 2, 4)) for part in last)
+        if triple != last:
+            triples.append(triple)
+            last = triple
+    return triples
+
+
+def near(picture, p, neighbours):
+    """A pixel and its neighbours."""
+    row, column = divmod(p, picture.width)
+    return [y * picture.width + x for y in range(row - 1, row + 2) for x in range(column - 1, column + 2)
+            if 0 <= y < picture.height and 0 <= x < picture.width and (neighbours == 8 or y == row or x == column)]
+
+
+def component(picture, p, level, neighbours):
+    """The pixels that are joined to p by pixels of at least this level."""
+    joined, waiting = {p}, [p]
+    while waiting:
+        further = {q for q in near(picture, waiting.pop(), neighbours) if picture.raster[q] >= level} - joined
+        joined |= further
+        waiting += further
+    return joined
+
+
+def sizes_of(picture, pixels):
+    """The area, height and width of a set of pixels."""
+    rows, columns = [p // picture.width for p in pixels], [p % picture.width for p in pixels]
+    if min(rows) == 0 or min(columns) == 0 or max(rows) == picture.height - 1 or max(columns) == picture.width - 1:
+        return FRAME, FRAME, FRAME
+    return len(pixels), max(rows) - min(rows) + 1, max(columns) - min(columns) + 1
+
+
+def sizes_by_level(picture, neighbours):
+    """For each level that a picture has, the sizes of the component of each pixel that is at least as bright."""
+    found = {level: {} for level in picture.raster}
+    for level, sizes in found.items():
+        for p, grey in enumerate(picture.raster):
+            if grey >= level and p not in sizes:
+                pixels = component(picture, p, level, neighbours)
+                sizes.update(dict.fromkeys(pixels, sizes_of(picture, pixels)))
+    return found
+
+
+def plainly_opened(picture, triples, neighbours):
+    """The openings by triples as they are defined: at each pixel the greatest level at which its component meets all three."""
+    found = sizes_by_level(picture, neighbours)
+    return [bytes(max(level for level, sizes in found.items() if p in sizes and all(map(ge, sizes[p], triple)))
+                  for p in range(len(picture.raster))) for triple in triples]
+
+
+def runs_between(openings, gap):
+    """The residue and the index of each pixel, from a picture and its openings."""
+    falls = [[before - after for before, after in zip(*greys)] for greys in zip(openings, openings[1:])]
+    return [largest_run(residues, gap) for residues in zip(*falls)]
 
 
 def largest_run(residues, gap):
@@ -181,9 +267,8 @@ class Module(unittest.TestCase):
         for _ in range(100):
             picture, steps, gap, words = random_call(random)
             openings = [picture.raster] + [teldruf.open(picture, step, **words).raster for step in steps]
-            falls = [[before - after for before, after in zip(*greys)] for greys in zip(openings, openings[1:])]
             maps = teldruf.map(picture, steps, gap=gap, **words)
-            self.assertEqual(list(zip(maps.residue, maps.index)), [largest_run(residues, gap) for residues in zip(*falls)])
+            self.assertEqual(list(zip(maps.residue, maps.index)), runs_between(openings, gap))
 
     def test_dark_and_combined_maps_on_each_kind_of_buffer(self):
         rows = memoryview(PITTED.raster).cast("B", (5, 5))
@@ -204,6 +289,57 @@ class Module(unittest.TestCase):
             self.assertEqual(dark, teldruf.map(turned, steps, **words))
             won = [(a, i, a) if a > b else (b, j, -b) for a, i, b, j in zip(*light, *dark)]
             self.assertEqual(list(zip(*teldruf.combined_map(picture, steps, **words))), won)
+
+    def test_triples_on_each_kind_of_buffer(self):
+        rows = memoryview(THREADS.raster).cast("B", (6, 7))
+        for picture in THREADS, THREADS._replace(raster=bytearray(THREADS.raster)), rows:
+            for triple in (2, 2, 2), [2, 2, 2], Triple(2, 2, 2), Triple(width=2, height=2, area=2):
+                opened = teldruf.open_triple(picture, triple)
+                self.assertEqual(opened, OPENED_BY_2_2_2 if picture is rows else THREADS._replace(raster=OPENED_BY_2_2_2))
+            for triples in TRIPLES, tuple(TRIPLES), [list(triple) for triple in TRIPLES], [Triple(*triple) for triple in TRIPLES]:
+                self.assertEqual(listed(teldruf.map_triples(picture, triples)), LIGHT_THREADS)
+                self.assertEqual(listed(teldruf.map_triples(picture, triples, neighbours=8, gap=2)), LIGHT_THREADS)
+                self.assertEqual(listed(teldruf.map_triples(picture, triples, gap=3)), JOINED_THREADS)
+                self.assertEqual(listed(teldruf.dark_map_triples(picture, triples)), DARK_THREADS)
+                combined = teldruf.combined_map_triples(picture, triples)
+                self.assertEqual(listed(combined), COMBINED_THREADS)
+                self.assertEqual((combined.contrast.typecode, combined._fields), ("h", ("residue", "index", "contrast")))
+
+    def test_triples_stay_where_all_three_are_met(self):
+        random = Random(11)
+        for _ in range(100):
+            picture, steps, gap, words = random_call(random)
+            triples, words = random_triples(random, len(steps)), {"neighbours": words["neighbours"]}
+            turned = picture._replace(raster=bytes(255 - grey for grey in picture.raster))
+            light, dark = [plainly_opened(side, triples, **words) for side in (picture, turned)]
+            self.assertEqual([teldruf.open_triple(picture, triple, **words).raster for triple in triples], light)
+            light, dark = runs_between([picture.raster, *light], gap), runs_between([turned.raster, *dark], gap)
+            words["gap"] = gap
+            self.assertEqual(list(zip(*teldruf.map_triples(picture, triples, **words))), light)
+            self.assertEqual(list(zip(*teldruf.dark_map_triples(picture, triples, **words))), dark)
+            won = [(a, i, a) if a > b else (b, j, -b) for (a, i), (b, j) in zip(light, dark)]
+            self.assertEqual(list(zip(*teldruf.combined_map_triples(picture, triples, **words))), won)
+
+    def test_a_threshold_is_a_triple_with_two_zeros(self):
+        random = Random(3)
+        for _ in range(100):
+            picture, steps, gap, words = random_call(random)
+            name = Triple._fields[words["attribute"] - 1]
+            triples, neighbours = [Triple(**{name: step}) for step in steps], words["neighbours"]
+            self.assertEqual(teldruf.open_triple(picture, triples[0], neighbours=neighbours), teldruf.open(picture, steps[0], **words))
+            for by_threshold, by_triple in [(teldruf.map, teldruf.map_triples), (teldruf.dark_map, teldruf.dark_map_triples),
+                                            (teldruf.combined_map, teldruf.combined_map_triples)]:
+                maps = by_threshold(picture, steps, gap=gap, **words)
+                self.assertEqual(by_triple(picture, triples, neighbours=neighbours, gap=gap), maps)
+
+    def test_up_to_256_triples(self):
+        triples = [(k // 3, (k + 1) // 3, (k + 2) // 3) for k in range(1, 258)]
+        maps = bytes(ringed(0, [0, 10, 10, 30, 0])), ringed(0, [0, 5, 5, 4, 0])  # 1,1,2 removes both pixels, 1,2,2 all three
+        self.assertEqual(listed(teldruf.map_triples(ROW, triples[:256])), maps)
+        self.assertEqual(teldruf.open_triple(ROW, (FRAME, FRAME, FRAME)).raster, bytes([10] * 21))
+        with self.assertRaises(teldruf.Refused) as caught:
+            teldruf.map_triples(ROW, triples)
+        self.assertEqual(caught.exception.number, 4)
 
     def test_a_row_is_viewed_where_it_stands(self):
         maps = bytes(range(12)), bytes(range(100, 112))
@@ -247,6 +383,28 @@ class Module(unittest.TestCase):
             (4, lambda: teldruf.combined_map(ROW, [2, 1], gap=257)),
             (19, lambda: teldruf.dark_map(ROW, [1], gap=257)),
             (19, lambda: teldruf.combined_map(ROW, [1], gap=257)),
+            (1, lambda: teldruf.open_triple(ROW._replace(width=0), (0, 0, 0))),
+            (1, lambda: teldruf.map_triples(ROW._replace(width=4097), [])),
+            (2, lambda: teldruf.open_triple(ROW._replace(raster=long), (1, 1, 1), neighbours=5)),
+            (2, lambda: teldruf.combined_map_triples(ROW._replace(height=2), [(1, 1, 1)])),
+            (17, lambda: teldruf.open_triple(ROW, (0, 0, 0), neighbours=5)),
+            (17, lambda: teldruf.dark_map_triples(ROW, [], neighbours=5, gap=257)),
+            (4, lambda: teldruf.open_triple(ROW, (0, 0, 0))),
+            (4, lambda: teldruf.open_triple(ROW, (FRAME + 1, 0, 0))),
+            (4, lambda: teldruf.open_triple(ROW, (0, FRAME + 1, 0))),
+            (4, lambda: teldruf.open_triple(ROW, (0, 0, 2 ** 32 - 1))),
+            (4, lambda: teldruf.map_triples(ROW, [])),
+            (4, lambda: teldruf.map_triples(ROW, [(0, 0, 0), (1, 1, 1)])),
+            (4, lambda: teldruf.map_triples(ROW, [(1, 2, 3), (1, 2, 3)])),
+            (4, lambda: teldruf.map_triples(ROW, [(1, 2, 3), (0, 3, 4)])),
+            (4, lambda: teldruf.dark_map_triples(ROW, [(1, 2, 3), (2, 1, 4)])),
+            (4, lambda: teldruf.combined_map_triples(ROW, [(1, 2, 3), (2, 3, 2)])),
+            (4, lambda: teldruf.map_triples(ROW, [(1, 1, 1), (FRAME + 1, 1, 1)])),
+            (4, lambda: teldruf.map_triples(ROW, [(1, 1, 1), (1, FRAME + 1, 1)])),
+            (4, lambda: teldruf.map_triples(ROW, [(1, 1, 1), (1, 1, FRAME + 1)], gap=257)),
+            (19, lambda: teldruf.map_triples(ROW, [(1, 0, 0)], gap=257)),
+            (19, lambda: teldruf.dark_map_triples(ROW, [(0, 1, 0)], gap=257)),
+            (19, lambda: teldruf.combined_map_triples(ROW, [(0, 0, FRAME)], gap=2 ** 32 - 1)),
             (1, lambda: teldruf.view_row(b"", b"", 0, 7, 0, 1)),
             (1, lambda: teldruf.view_row(b"", b"", 4097, 1, 1, 3)),
             (6, lambda: teldruf.view_row(GREYS[1:], GREYS, 7, 3, 0, 2)),
@@ -281,6 +439,13 @@ class Module(unittest.TestCase):
             lambda bad: teldruf.map(ROW, [1], gap=bad),
             lambda bad: teldruf.dark_map(ROW, [bad]),
             lambda bad: teldruf.combined_map(ROW, [1], gap=bad),
+            lambda bad: teldruf.open_triple(ROW, (bad, 1, 1)),
+            lambda bad: teldruf.open_triple(ROW, (1, bad, 1)),
+            lambda bad: teldruf.open_triple(ROW, (1, 1, bad)),
+            lambda bad: teldruf.open_triple(ROW, (1, 1, 1), neighbours=bad),
+            lambda bad: teldruf.map_triples(ROW, [(1, 1, 1), (1, 1, bad)]),
+            lambda bad: teldruf.dark_map_triples(ROW, [(1, 1, 1)], neighbours=bad),
+            lambda bad: teldruf.combined_map_triples(ROW, [(1, 1, 1)], gap=bad),
             lambda bad: teldruf.view_row(GREYS, GREYS, bad, 3, 0, 1),
             lambda bad: teldruf.view_row(GREYS, GREYS, 7, bad, 0, 1),
             lambda bad: teldruf.view_row(GREYS, GREYS, 7, 3, bad, 1),
@@ -302,6 +467,14 @@ class Module(unittest.TestCase):
             (TypeError, lambda: teldruf.build(ROW._replace(raster=list(GREYS)))),
             (TypeError, lambda: teldruf.build(ROW._replace(raster=memoryview(GREYS).cast("b")))),
             (TypeError, lambda: teldruf.combined_map(GREYS, [1])),
+            (TypeError, lambda: teldruf.open_triple(ROW, 2)),
+            (TypeError, lambda: teldruf.open_triple(ROW, "222")),
+            (ValueError, lambda: teldruf.open_triple(ROW, (2, 2))),
+            (TypeError, lambda: teldruf.map_triples(ROW, [2, 2, 2])),
+            (TypeError, lambda: teldruf.map_triples(ROW, (2, 2, 2))),
+            (ValueError, lambda: teldruf.dark_map_triples(ROW, [(2, 2, 2), (3, 3)])),
+            (ValueError, lambda: teldruf.combined_map_triples(ROW, [(2, 2, 2, 2)])),
+            (TypeError, lambda: teldruf.map_triples(GREYS, [(1, 1, 1)])),
             (ValueError, lambda: teldruf.view_row(GREYS, GREYS, 7, 3, 0, "both")),
             (TypeError, lambda: teldruf.view_row(list(GREYS), GREYS, 7, 3, 0, 1)),
             (TypeError, lambda: teldruf.view_row(GREYS, memoryview(GREYS).cast("b"), 7, 3, 0, 1)),
@@ -343,6 +516,14 @@ class Module(unittest.TestCase):
                                     (combined.residue, "uint8", list(COMBINED[0])), (combined.index, "uint16", COMBINED[1]),
                                     (combined.contrast, "int16", COMBINED[2])]:
             self.assertEqual((got.dtype.name, got.shape, got.ravel().tolist()), (kind, (5, 5), expected))
+        threads, triples = numpy.frombuffer(THREADS.raster, numpy.uint8).reshape(6, 7), numpy.array(TRIPLES)
+        by_triples = teldruf.combined_map_triples(threads, triples)
+        for got, kind, expected in [(teldruf.open_triple(threads, triples[2]), "uint8", list(OPENED_BY_2_2_2)),
+                                    (by_triples.index, "uint16", COMBINED_THREADS[1]),
+                                    (by_triples.contrast, "int16", COMBINED_THREADS[2])]:
+            self.assertEqual((got.dtype.name, got.shape, got.ravel().tolist()), (kind, (6, 7), expected))
+        with self.assertRaises(TypeError):
+            teldruf.map_triples(threads, triples.ravel())
         view = teldruf.view_row(combined.residue, dark.residue, 5, 5, 2, "dark")
         dark.residue[2, 4] = 9
         self.assertEqual(view.tolist(), [0, 0, 30, 0, 9])
@@ -419,6 +600,44 @@ class Hosts(unittest.TestCase):
                 self.assertEqual(self.contents(self.contrast), [residue_head + residue, index_head + index_bytes(index),
                                                                 contrast_head + contrast_bytes(contrast)])
 
+    def test_maps_by_triples(self):
+        picture = self.file("threads.pgm", b"P5\n7 6\n255\n" + THREADS.raster)
+        steps = [",".join(str(part) for part in triple) for triple in TRIPLES]
+        residue_head, index_head, contrast_head = b"P5\n7 6\n255\n", b"P5\n7 6\n256\n", b"P6\n7 6\n255\n"
+        for host in HOSTS:
+            for sides, words, (residue, index) in [
+                ([], [], LIGHT_THREADS), ([], ["neighbours=8", "gap=2"], LIGHT_THREADS), ([], ["gap=3"], JOINED_THREADS),
+                (["--dark"], [], DARK_THREADS), (["--dark"], ["neighbours=4", "gap=256"], DARK_THREADS),
+            ]:
+                subprocess.run([*host, *sides, picture, *self.out, "triple", *words, *steps], check=True)
+                self.assertEqual(self.contents(), [residue_head + residue, index_head + index_bytes(index)])
+            subprocess.run([*host, "--combined", self.contrast, picture, *self.out, "triple", *steps], check=True)
+            residue, index, contrast = COMBINED_THREADS
+            self.assertEqual(self.contents(self.contrast), [residue_head + residue, index_head + index_bytes(index),
+                                                            contrast_head + contrast_bytes(contrast)])
+
+    def test_hosts_agree_on_a_basin_by_triples(self):
+        found = []
+        for host in HOSTS:
+            for sides, more in ([], []), (["--dark"], []), (["--combined", self.contrast], [self.contrast]):
+                words = "triple", "neighbours=8", "gap=1", "8,0,0", "8,3,0", "8,3,3", "32,0000000005,5"
+                subprocess.run([*host, *sides, os.path.join(FOLDER, "backlit.pgm"), *self.out, *words], check=True)
+                found.append(self.contents(*more))
+        self.assertEqual(found[:3], found[3:])
+        self.assertTrue(all(len(set(maps)) == 3 for maps in zip(*found[:3])))
+
+    def test_steps_are_triples_with_two_zeros(self):
+        for host in HOSTS:
+            for words, triples in [
+                (("area", "8", "32"), ("8,0,0", "32,0,0")),
+                (("height", "2", "1048577"), ("0,2,0", "0,1048577,0")),
+                (("width", "3", "9"), ("0,0,3", "0,0,9")),
+            ]:
+                subprocess.run([*host, os.path.join(FOLDER, "basin.pgm"), *self.out, *words], check=True)
+                found = self.contents()
+                subprocess.run([*host, os.path.join(FOLDER, "basin.pgm"), *self.out, "triple", *triples], check=True)
+                self.assertEqual(self.contents(), found)
+
     def test_every_contrast_has_its_colour(self):
         greys = [grey for c in range(1, 256) for grey in (0, c, 0, 255, 255 - c, 255)]
         rows = [0 if p % 6 < 3 else 255 for p in range(len(greys))]  # the same without the pixel that stands out
@@ -471,7 +690,14 @@ class Hosts(unittest.TestCase):
     def test_wrong_use(self):
         for word in "8x", "4294967304", "-1", "+8", "", " 8", "8 ", "0x8", "8.0", "99999999999999999999":
             self.fails(2, f"'{word}' is no step", self.picture, *self.out, "area", "1", word)
-        self.fails(2, "'depth' is no attribute", self.picture, *self.out, "depth", "1")
+        for word in [
+            "8", "8,3", "8,3,0,0", "8,3,", ",3,0", "8,,0", ",,", "8,3,x", "-8,3,0", "8,+3,0", "8, 3,0", "8,3,0 ", "8,3,4294967296",
+            "8,00000000003,0", "8.0,3,0", "8;3;0", "8 3 0", "(8,3,0)", "",
+        ]:
+            self.fails(2, f"'{word}' is no step: triples are area,height,width", self.picture, *self.out, "triple", "1,0,0", word)
+        self.fails(2, "'1,0,0' is no step: steps are whole numbers", self.picture, *self.out, "area", "1,0,0")
+        for word in "depth", "triples", "Triple", "area,height,width", "":
+            self.fails(2, f"'{word}' is no attribute", self.picture, *self.out, word, "1")
         for number in "", "8x", "4294967304", "-8", " 8", "8 ", "0x8", "00000000008", "four":
             self.fails(2, f"'neighbours={number}' names no neighbours", self.picture, *self.out, "area", f"neighbours={number}", "1")
         for number in "", "2x", "4294967296", "-2", "+2", " 2", "2 ", "0x2", "00000000002", "2.0", "two":
@@ -499,7 +725,7 @@ class Hosts(unittest.TestCase):
         self.fails(2, "'--dark' is no step", *files, "area", "1", "--dark")
         for host in HOSTS:
             for words in [
-                [], files, [*files, "area"], [*files, "area", "neighbours=8"], [*files, "area", "gap=2"],
+                [], files, [*files, "area"], [*files, "area", "neighbours=8"], [*files, "area", "gap=2"], [*files, "triple"],
                 ["--dark"], ["--dark", *files, "area"], ["--combined"], ["--combined", self.contrast],
                 ["--combined", self.contrast, *files, "area"], ["--combined", *files, "area", "1"],
             ]:
@@ -510,20 +736,28 @@ class Hosts(unittest.TestCase):
 
     def test_refusals(self):
         for number, words, contents in [
-            (4, ("0",), FILE),
-            (4, ("4294967295",), FILE),
-            (8, ("1",), b""),
-            (11, ("1",), FILE[:-1]),
-            (17, ("neighbours=5", "1"), FILE),
-            (17, ("neighbours=4294967295", "0"), FILE),
-            (17, ("neighbours=5", "gap=257", "1"), FILE),
-            (4, ("gap=257", "0"), FILE),
-            (19, ("gap=257", "1"), FILE),
-            (19, ("gap=4294967295", "1"), FILE),
+            (4, ("area", "0"), FILE),
+            (4, ("area", "4294967295"), FILE),
+            (8, ("area", "1"), b""),
+            (11, ("area", "1"), FILE[:-1]),
+            (17, ("area", "neighbours=5", "1"), FILE),
+            (17, ("area", "neighbours=4294967295", "0"), FILE),
+            (17, ("area", "neighbours=5", "gap=257", "1"), FILE),
+            (4, ("area", "gap=257", "0"), FILE),
+            (19, ("area", "gap=257", "1"), FILE),
+            (19, ("area", "gap=4294967295", "1"), FILE),
+            (4, ("triple", "0,0,0"), FILE),
+            (4, ("triple", "4,2,2", "4,2,2"), FILE),
+            (4, ("triple", "4,2,2", "5,1,2"), FILE),
+            (4, ("triple", "0,0,4294967295"), FILE),
+            (8, ("triple", "0,0,0"), b""),
+            (17, ("triple", "neighbours=5", "0,0,0"), FILE),
+            (4, ("triple", "gap=257", "1,0,0", "0,1,0"), FILE),
+            (19, ("triple", "gap=257", "1,0,0"), FILE),
         ]:
             picture = self.file("refused.pgm", contents)
             for sides in [], ["--dark"], ["--combined", self.contrast]:
-                self.fails(1, f"refused {number}: {teldruf.cause_text(number)}", *sides, picture, *self.out, "area", *words)
+                self.fails(1, f"refused {number}: {teldruf.cause_text(number)}", *sides, picture, *self.out, *words)
         self.assertFalse(any(os.path.exists(name) for name in (*self.out, self.contrast)))
 
     def test_files_that_cannot_be_read(self):
@@ -573,8 +807,11 @@ class Colours(unittest.TestCase):
         for count in range(1, 17):
             colours = index_to_png.colours_of(count)
             self.assertEqual(len(set(colours)), 1 + count)
-            names = [name for name, _ in index_to_png.entries_of("area", range(1, 1 + count), colours)]
-            self.assertEqual(names, ["area", "none"] + [str(step) for step in range(1, 1 + count)])
+            for attribute, form in ("area", "{}"), ("triple", "{},0,1048577"):
+                steps = [form.format(step) for step in range(1, 1 + count)]
+                entries = index_to_png.entries_of(attribute, steps, colours)
+                self.assertEqual([name for name, _ in entries], [attribute, "none", *steps])
+                self.assertEqual(len(index_to_png.dots_of(*entries[0])[0]), index_to_png.LETTER_WIDTH * (len(attribute) + 1))
         self.assertEqual(len(set(index_to_png.colours_of(256))), 257)
 
     def test_words_are_the_hosts(self):
@@ -593,6 +830,14 @@ class Colours(unittest.TestCase):
                 ["gap=2"], ["gap=257", *steps], ["gap=2x", *steps], ["gap=2", "neighbours=8", *steps], [*steps, "gap=2"],
             ]:
                 self.assertEqual(subprocess.run([*command, *words], capture_output=True).returncode, 2)
+            command[-1] = "triple"
+            subprocess.run([*command, "neighbours=8", *(f"{step},0,0" for step in steps)], check=True)
+            with open(png, "rb") as file:
+                self.assertNotIn(file.read(), pictures)
+            for words in steps, [f"{steps[0]},0"], ["1,0,0,0"], ["1,0,x"], ["1,,0"]:
+                self.assertEqual(subprocess.run([*command, *words], capture_output=True).returncode, 2)
+            command[-1] = "area"
+            self.assertEqual(subprocess.run([*command, "1,0,0"], capture_output=True).returncode, 2)
 
 
 if __name__ == "__main__":

@@ -1,8 +1,9 @@
 /*
  * Maps a picture of any size within the bounds: the residue map and the index map of a PGM file, as PGM files.
  *
- *   host [--dark | --combined CONTRAST] PICTURE RESIDUE INDEX area|height|width [neighbours=4|8] [gap=GAP] STEP..
+ *   host [--dark | --combined CONTRAST] PICTURE RESIDUE INDEX area|height|width|triple [neighbours=4|8] [gap=GAP] STEP..
  *
+ * A step is a number, such as 8; where `triple` stands for the attribute it is an area, a height and a width together, such as 8,3,0.
  * The maps are of light floc, with --dark of dark floc, with --combined of both. The residue map has a byte a sample, the index map
  * two, the high one first, and the maximum 256, so that every index is kept. The contrast is a picture for people, a PPM file: light
  * floc in orange, dark floc in blue, the brighter the larger its residue, up to 128, and black where there is none. The exit status is 0
@@ -23,6 +24,9 @@ enum { MOST_FILE = 2 * TELDRUF_MOST_PIXELS };
 
 enum { MOST_INDEX = TELDRUF_MOST_STEPS };
 
+/* Stands for an attribute where steps are triples. */
+enum { TRIPLE = 0 };
+
 typedef struct {
     uint32_t width, height;
     size_t n;
@@ -35,8 +39,17 @@ typedef struct {
     const char *contrast; /* a file if light and dark are combined, else null */
     const char *picture, *residue, *index;
     uint32_t attribute, neighbours, gap, *steps;
-    size_t steps_len;
+    size_t steps_len; /* in words, of which a triple has three */
 } task_t;
+
+/* What a map call is lent to write. */
+typedef struct {
+    size_t n, workspace_len;
+    uint32_t *workspace;
+    uint8_t *residue;
+    uint16_t *index;
+    int16_t *contrast;
+} lent_t;
 
 /* Ends the program with a sentence. */
 static _Noreturn void fail(int status, const char *form, ...) {
@@ -135,28 +148,40 @@ static void write_contrast(const char *name, const picture_t *picture, const int
 }
 
 static uint32_t attribute_named(const char *word) {
-    const char *const words[] = {"area", "height", "width"};
-    for (uint32_t a = 0; a < 3; a++)
+    const char *const words[] = {
+        [TRIPLE] = "triple", [TELDRUF_AREA] = "area", [TELDRUF_HEIGHT] = "height", [TELDRUF_WIDTH] = "width"};
+    for (uint32_t a = 0; a < 4; a++)
         if (strcmp(word, words[a]) == 0)
-            return a + 1;
-    fail(WRONG_USE, "'%s' is no attribute: area, height or width", word);
+            return a;
+    fail(WRONG_USE, "'%s' is no attribute: area, height, width or triple", word);
 }
 
-/* A number is 1 to 10 digits and nothing else, and has 32 bits; whether it is a step, 4 or 8, or a gap, the library judges. */
-static int is_number(const char *word, uint32_t *number) {
+/* A number is 1 to 10 digits and nothing else up to its end, and has 32 bits; whether it is a step, 4 or 8 or a gap the library judges. */
+static int is_number(const char *word, char end, uint32_t *number) {
     size_t digits = strspn(word, "0123456789");
     uint64_t value = 0;
     for (size_t i = 0; i < digits && i < 10; i++)
         value = 10 * value + (uint64_t)(word[i] - '0');
     *number = (uint32_t)value;
-    return digits >= 1 && digits <= 10 && word[digits] == '\0' && value <= UINT32_MAX;
+    return digits >= 1 && digits <= 10 && word[digits] == end && value <= UINT32_MAX;
 }
 
-static uint32_t step_of(const char *word) {
-    uint32_t step;
-    if (!is_number(word, &step))
+/* A triple is three numbers with a comma after the first and the second. */
+static int is_triple(const char *word, uint32_t parts[TELDRUF_WORDS_A_TRIPLE]) {
+    for (int part = 0; part < TELDRUF_WORDS_A_TRIPLE; part++) {
+        if (!is_number(word, part + 1 < TELDRUF_WORDS_A_TRIPLE ? ',' : '\0', &parts[part]))
+            return 0;
+        word += strcspn(word, ",") + 1;
+    }
+    return 1;
+}
+
+static void read_step(const char *word, uint32_t attribute, uint32_t *step) {
+    if (attribute == TRIPLE && !is_triple(word, step))
+        fail(WRONG_USE, "'%s' is no step: triples are area,height,width, whole numbers from 0 to 1048577, in 1 to 10 digits each and "
+                        "nothing else", word);
+    if (attribute != TRIPLE && !is_number(word, '\0', step))
         fail(WRONG_USE, "'%s' is no step: steps are whole numbers from 1 to 1048577, in 1 to 10 digits and nothing else", word);
-    return step;
 }
 
 static const char naming_neighbours[] = "neighbours=", naming_gap[] = "gap=";
@@ -168,14 +193,14 @@ static int starts(int count, char **words, int place, const char *start) {
 
 static uint32_t neighbours_named(const char *word) {
     uint32_t neighbours;
-    if (!is_number(word + strlen(naming_neighbours), &neighbours))
+    if (!is_number(word + strlen(naming_neighbours), '\0', &neighbours))
         fail(WRONG_USE, "'%s' names no neighbours: neighbours=4 or neighbours=8", word);
     return neighbours;
 }
 
 static uint32_t gap_named(const char *word) {
     uint32_t gap;
-    if (!is_number(word + strlen(naming_gap), &gap))
+    if (!is_number(word + strlen(naming_gap), '\0', &gap))
         fail(WRONG_USE, "'%s' names no gap: gap=0 to gap=256", word);
     return gap;
 }
@@ -192,7 +217,7 @@ static task_t read_words(int count, char **words) {
     int second = files + 4 + starts(count, words, files + 4, naming_neighbours); /* where a gap may be named */
     int first = second + starts(count, words, second, naming_gap);               /* where the steps start */
     if (count <= first)
-        fail(WRONG_USE, "usage: [--dark | --combined CONTRAST] PICTURE RESIDUE INDEX area|height|width [neighbours=4|8] [gap=GAP] "
+        fail(WRONG_USE, "usage: [--dark | --combined CONTRAST] PICTURE RESIDUE INDEX area|height|width|triple [neighbours=4|8] [gap=GAP] "
                         "STEP..");
     task_t task = {.dark = dark, .contrast = combined ? file_named(words[2]) : NULL};
     task.picture = file_named(words[files]);
@@ -201,33 +226,50 @@ static task_t read_words(int count, char **words) {
     task.attribute = attribute_named(words[files + 3]);
     task.neighbours = second > files + 4 ? neighbours_named(words[files + 4]) : TELDRUF_EDGES;
     task.gap = first > second ? gap_named(words[second]) : 0;
-    task.steps_len = (size_t)(count - first);
+    size_t step_words = task.attribute == TRIPLE ? TELDRUF_WORDS_A_TRIPLE : 1;
+    task.steps_len = step_words * (size_t)(count - first);
     task.steps = lend(task.steps_len, sizeof *task.steps);
-    for (size_t i = 0; i < task.steps_len; i++)
-        task.steps[i] = step_of(words[(size_t)first + i]);
+    for (int i = first; i < count; i++)
+        read_step(words[i], task.attribute, task.steps + step_words * (size_t)(i - first));
     return task;
+}
+
+static uint64_t map_by_attribute(const task_t *task, const picture_t *picture, const lent_t *lent) {
+    size_t n = lent->n;
+    if (task->contrast != NULL)
+        return teldruf_combined_map(picture->greys, n, picture->width, picture->height, task->attribute, task->neighbours, task->steps,
+                                    task->steps_len, task->gap, lent->workspace, lent->workspace_len, lent->residue, n, lent->index, n,
+                                    lent->contrast, n);
+    return (task->dark ? teldruf_dark_map : teldruf_map)(picture->greys, n, picture->width, picture->height, task->attribute,
+                                                         task->neighbours, task->steps, task->steps_len, task->gap, lent->workspace,
+                                                         lent->workspace_len, lent->residue, n, lent->index, n);
+}
+
+static uint64_t map_by_triples(const task_t *task, const picture_t *picture, const lent_t *lent) {
+    size_t n = lent->n;
+    if (task->contrast != NULL)
+        return teldruf_combined_map_triples(picture->greys, n, picture->width, picture->height, task->neighbours, task->steps,
+                                            task->steps_len, task->gap, lent->workspace, lent->workspace_len, lent->residue, n,
+                                            lent->index, n, lent->contrast, n);
+    return (task->dark ? teldruf_dark_map_triples : teldruf_map_triples)(picture->greys, n, picture->width, picture->height,
+                                                                         task->neighbours, task->steps, task->steps_len, task->gap,
+                                                                         lent->workspace, lent->workspace_len, lent->residue, n,
+                                                                         lent->index, n);
 }
 
 int main(int count, char **words) {
     task_t task = read_words(count, words);
     picture_t picture = read_picture(task.picture);
-    size_t n = picture.n, workspace_len = TELDRUF_WORDS_A_PIXEL * n;
-    uint32_t *workspace = lend(workspace_len, sizeof *workspace);
-    uint8_t *residue = lend(n, 1);
-    uint16_t *index = lend(n, sizeof *index);
-    int16_t *contrast = lend(n, sizeof *contrast);
-    uint64_t answer;
+    size_t n = picture.n;
+    lent_t lent = {.n = n, .workspace_len = TELDRUF_WORDS_A_PIXEL * n};
+    lent.workspace = lend(lent.workspace_len, sizeof *lent.workspace);
+    lent.residue = lend(n, 1);
+    lent.index = lend(n, sizeof *lent.index);
+    lent.contrast = lend(n, sizeof *lent.contrast);
+    accepted((task.attribute == TRIPLE ? map_by_triples : map_by_attribute)(&task, &picture, &lent), task.picture);
+    write_residue(task.residue, &picture, lent.residue);
+    write_index(task.index, &picture, lent.index);
     if (task.contrast != NULL)
-        answer = teldruf_combined_map(picture.greys, n, picture.width, picture.height, task.attribute, task.neighbours, task.steps,
-                                      task.steps_len, task.gap, workspace, workspace_len, residue, n, index, n, contrast, n);
-    else
-        answer = (task.dark ? teldruf_dark_map : teldruf_map)(picture.greys, n, picture.width, picture.height, task.attribute,
-                                                              task.neighbours, task.steps, task.steps_len, task.gap, workspace,
-                                                              workspace_len, residue, n, index, n);
-    accepted(answer, task.picture);
-    write_residue(task.residue, &picture, residue);
-    write_index(task.index, &picture, index);
-    if (task.contrast != NULL)
-        write_contrast(task.contrast, &picture, contrast);
+        write_contrast(task.contrast, &picture, lent.contrast);
     return 0;
 }

@@ -2,7 +2,7 @@
 
     gcc -shared -o libteldruf.so -Wl,--whole-archive target/staticlib/libteldruf.a -Wl,--no-whole-archive
     python3 examples/host.py ./libteldruf.so [--dark | --combined CONTRAST] PICTURE RESIDUE INDEX \\
-        area|height|width [neighbours=4|8] [gap=GAP] STEP..
+        area|height|width|triple [neighbours=4|8] [gap=GAP] STEP..
 
 What the words mean, the files that are written and the exit status are host.c's.
 """
@@ -10,7 +10,7 @@ What the words mean, the files that are written and the exit status are host.c's
 import os
 import re
 import sys
-from typing import List, NamedTuple, Optional
+from typing import List, NamedTuple, Optional, Union
 
 sys.path.insert(0, os.path.join(os.path.dirname(os.path.abspath(__file__)), os.pardir, "python"))
 import teldruf
@@ -20,6 +20,7 @@ MOST_PIXELS, MOST_INDEX = 1048576, 256
 # The largest file that is read: beside the largest raster there is room for a header with a mebibyte of comments.
 MOST_FILE = 2 * MOST_PIXELS
 NAMING_NEIGHBOURS, NAMING_GAP = "neighbours=", "gap="
+TRIPLE = "triple"  # stands for an attribute where steps are triples
 
 
 class Failure(Exception):
@@ -81,6 +82,14 @@ def step_of(word):
     return int(word)
 
 
+def triple_of(word):
+    parts = word.split(",")
+    if len(parts) != 3 or not all(is_number(part) for part in parts):
+        raise Failure(WRONG_USE, f"'{word}' is no step: triples are area,height,width, whole numbers from 0 to 1048577, in 1 to 10 digits "
+                                 "each and nothing else")
+    return teldruf.Triple(*[int(part) for part in parts])
+
+
 def starts(words, place, start):
     """Whether there is a word at this place, and it starts so."""
     return len(words) > place and words[place].startswith(start)
@@ -117,7 +126,7 @@ class Task(NamedTuple):
     attribute: str
     neighbours: int
     gap: int
-    steps: List[int]
+    steps: Union[List[int], List[teldruf.Triple]]
 
 
 def read_words(words):
@@ -127,23 +136,26 @@ def read_words(words):
     second = files + 4 + starts(words, files + 4, NAMING_NEIGHBOURS)  # where a gap may be named
     first = second + starts(words, second, NAMING_GAP)  # where the steps start
     if len(words) <= first:
-        raise Failure(WRONG_USE, "usage: LIBRARY [--dark | --combined CONTRAST] PICTURE RESIDUE INDEX area|height|width "
+        raise Failure(WRONG_USE, "usage: LIBRARY [--dark | --combined CONTRAST] PICTURE RESIDUE INDEX area|height|width|triple "
                                  "[neighbours=4|8] [gap=GAP] STEP..")
     contrast = file_named(words[2]) if combined else None
     picture, residue, index = [file_named(word) for word in words[files:files + 3]]
     attribute = words[files + 3]
-    if attribute not in teldruf.ATTRIBUTES:
-        raise Failure(WRONG_USE, f"'{attribute}' is no attribute: area, height or width")
+    if attribute not in (*teldruf.ATTRIBUTES, TRIPLE):
+        raise Failure(WRONG_USE, f"'{attribute}' is no attribute: area, height, width or triple")
     neighbours = neighbours_named(words[files + 4]) if second > files + 4 else 4
     gap = gap_named(words[second]) if first > second else 0
-    steps = [step_of(word) for word in words[first:]]
+    steps = [triple_of(word) if attribute == TRIPLE else step_of(word) for word in words[first:]]
     return Task(dark, contrast, picture, residue, index, attribute, neighbours, gap, steps)
 
 
-def call_of(task):
-    if task.contrast is not None:
-        return teldruf.combined_map
-    return teldruf.dark_map if task.dark else teldruf.map
+def maps_of(task, picture):
+    words = {"neighbours": task.neighbours, "gap": task.gap}
+    if task.attribute == TRIPLE:
+        call = teldruf.dark_map_triples if task.dark else teldruf.map_triples
+        return (call if task.contrast is None else teldruf.combined_map_triples)(picture, task.steps, **words)
+    call = teldruf.dark_map if task.dark else teldruf.map
+    return (call if task.contrast is None else teldruf.combined_map)(picture, task.steps, task.attribute, **words)
 
 
 def main(words):
@@ -155,7 +167,7 @@ def main(words):
     contents = read_file(task.picture)
     try:
         picture = teldruf.read(contents)
-        maps = call_of(task)(picture, task.steps, task.attribute, neighbours=task.neighbours, gap=task.gap)
+        maps = maps_of(task, picture)
         residue_file = teldruf.write(picture._replace(maximum=255, raster=maps.residue))
     except teldruf.Refused as refusal:
         raise Failure(REFUSED, f"{task.picture}: {refusal}")

@@ -1,6 +1,6 @@
 """Turns an index map, as the hosts write it, into a PNG file for people: a colour a step, and a legend that names the steps.
 
-    python3 examples/index_to_png.py INDEX.pgm INDEX.png area|height|width [neighbours=4|8] [gap=GAP] STEP..
+    python3 examples/index_to_png.py INDEX.pgm INDEX.png area|height|width|triple [neighbours=4|8] [gap=GAP] STEP..
 
 The words after the files are those that the host was given; neighbours and gap change nothing here. A pixel without residue is dark
 grey, `none` in the legend. Up to 16 steps have a colour and a name each; more share a ramp of colours, of which the legend names
@@ -25,7 +25,7 @@ RAMP = [
     (230, 115, 0), (200, 50, 20), (225, 20, 90), (235, 90, 175), (190, 110, 245), (130, 170, 255), (140, 235, 225), (255, 250, 195),
 ]
 
-# Letters of 5 x 7 dots: the digits, and those of the words in a legend.
+# Letters of 5 x 7 dots: the digits, and what else stands in a legend.
 FONT = {
     "0": ".###. #...# #..## #.#.# ##..# #...# .###.",
     "1": "..#.. .##.. ..#.. ..#.. ..#.. ..#.. .###.",
@@ -38,14 +38,17 @@ FONT = {
     "8": ".###. #...# #...# .###. #...# #...# .###.",
     "9": ".###. #...# #...# .#### ....# ...#. .##..",
     "-": "..... ..... ..... .###. ..... ..... .....",
+    ",": "..... ..... ..... ..... ..##. ..#.. .#...",
     "a": "..... ..... .###. ....# .#### #...# .####",
     "d": "....# ....# .##.# #..## #...# #...# .####",
     "e": "..... ..... .###. #...# ##### #.... .###.",
     "g": "..... .#### #...# #...# .#### ....# .###.",
     "h": "#.... #.... #.##. ##..# #...# #...# #...#",
     "i": "..#.. ..... .##.. ..#.. ..#.. ..#.. .###.",
+    "l": ".##.. ..#.. ..#.. ..#.. ..#.. ..#.. .###.",
     "n": "..... ..... #.##. ##..# #...# #...# #...#",
     "o": "..... ..... .###. #...# #...# #...# .###.",
+    "p": "..... ..... ####. #...# ####. #.... #....",
     "r": "..... ..... #.##. ##..# #.... #.... #....",
     "t": ".#... .#... ###.. .#... .#... .#..# ..##.",
     "w": "..... ..... #...# #...# #.#.# #.#.# .#.#.",
@@ -135,12 +138,21 @@ def first_step(words):
     return first
 
 
+def step_of(attribute, word):
+    """A step as the legend names it: a number, or the three of a triple."""
+    parts = word.split(",")
+    if len(parts) != (3 if attribute == "triple" else 1) or not all(part.isdecimal() for part in parts):
+        wrong_use(__doc__)
+    return ",".join(str(int(part)) for part in parts)
+
+
 def main(words):
     first = first_step(words)
-    if len(words) <= first or not all(word.isdecimal() for word in words[first:]) or words[2] not in ("area", "height", "width"):
+    if len(words) <= first or words[2] not in ("area", "height", "width", "triple"):
         wrong_use(__doc__)
+    steps = [step_of(words[2], word) for word in words[first:]]
     _, width, height, raster = read_picture(words[0], ["P5"], MOST_INDEX)
-    index, steps = index_of(raster), [int(word) for word in words[first:]]
+    index = index_of(raster)
     if len(raster) != 2 * width * height or not index or max(index) > len(steps):
         sys.exit(f"{words[0]}: not an index map of {len(steps)} steps")
     with open(words[1], "wb") as file:

@@ -42,7 +42,7 @@ enum {
 
 /*
  * Attributes of a connected set of pixels. A set with a pixel in the first or last row or column may go on beyond the picture: each
- * attribute of it is TELDRUF_MOST_THRESHOLD, the root's too, so that no threshold removes it.
+ * attribute of it is TELDRUF_MOST_THRESHOLD, the root's too, so that no threshold and no triple removes it.
  */
 enum {
     TELDRUF_AREA = 1,   /* pixels */
@@ -68,7 +68,8 @@ enum {
     TELDRUF_MOST_THRESHOLD = 1048577,
     TELDRUF_MOST_STEPS = 256,
     TELDRUF_MOST_GAP = 256,
-    TELDRUF_WORDS_A_PIXEL = 7
+    TELDRUF_WORDS_A_PIXEL = 7,
+    TELDRUF_WORDS_A_TRIPLE = 3
 };
 
 /* The number of the cause in an answer, 0 if the call was accepted. */
@@ -88,7 +89,8 @@ static inline const char *teldruf_cause_text(uint32_t number) {
     case TELDRUF_ATTRIBUTE:
         return "attribute not 1, 2 or 3 (area, height or width)";
     case TELDRUF_STEPS:
-        return "threshold outside 1 to 1,048,577, or step list empty, over 256 or not strictly rising";
+        return "threshold outside 1 to 1,048,577, triple of zeros or with a part above that, or step list empty, over 256, cut short or "
+               "not strictly rising";
     case TELDRUF_WORKSPACE:
         return "workspace not 7 words a pixel";
     case TELDRUF_OUTPUT_LENGTH:
@@ -138,8 +140,8 @@ uint64_t teldruf_write_pgm(const uint8_t *picture, size_t picture_len, uint32_t 
  * position. A representative's parent is the position of its parent's representative (the root's is its own) and its attribute is the
  * node's; any other pixel's parent is its representative and its attribute is 0. The list has the representatives by rising level,
  * lower position first within a level, as many as the answer says, and zeros after the last: the root comes first, and every parent
- * before its children. Position 0 is always among them, at any place, so a 0 does not end the list; after teldruf_open and the three
- * map calls its length is the number of attributes that are not 0. Refused, in this order: 1, 2, 3, 17, 5.
+ * before its children. Position 0 is always among them, at any place, so a 0 does not end the list; after opening and map calls its
+ * length is the number of attributes that are not 0. Refused, in this order: 1, 2, 3, 17, 5.
  */
 uint64_t teldruf_build(const uint8_t *picture, size_t picture_len, uint32_t width, uint32_t height, uint32_t attribute,
                        uint32_t neighbours, uint32_t *workspace, size_t workspace_len);
@@ -188,6 +190,46 @@ uint64_t teldruf_combined_map(const uint8_t *picture, size_t picture_len, uint32
                               uint32_t neighbours, const uint32_t *steps, size_t steps_len, uint32_t gap, uint32_t *workspace,
                               size_t workspace_len, uint8_t *residue, size_t residue_len, uint16_t *index, size_t index_len,
                               int16_t *contrast, size_t contrast_len);
+
+/*
+ * Opens a picture by a triple, three numbers from 0 to 1,048,577 that are not all 0: a node other than the root goes if its area is
+ * below the first, its height below the second (rows) or its width below the third (columns), so it stays if it meets all three. A
+ * threshold opens as the triple that has it for its attribute and 0 for the two others. Lent and answered as teldruf_open. No attribute
+ * is named: accepted, the record's attributes are areas. Refused, in this order: 1, 2, 17, 4, 5, 6.
+ */
+uint64_t teldruf_open_triple(const uint8_t *picture, size_t picture_len, uint32_t width, uint32_t height, uint32_t neighbours,
+                             uint32_t area, uint32_t rows, uint32_t columns, uint32_t *workspace, size_t workspace_len,
+                             uint8_t *output, size_t output_len);
+
+/*
+ * Gives the residue map and the index map of a picture for a list of 1 to 256 triples: what teldruf_map gives, with the openings by
+ * these triples. Lent and answered as there, but for the steps, which are words, three to a step: area, height and width, each from 0 to
+ * 1,048,577; steps_len counts words, and a step cut short is refused by 4. From one step to the next no part falls and at least one
+ * rises, and the first has a part above 0. Places in the list, for index and gap, are those of steps. A list of thresholds has the maps
+ * of its triples with two zeros. No attribute is named: accepted, the record's attributes are areas.
+ * Refused, in this order: 1, 2, 17, 4, 19, 5, 6.
+ */
+uint64_t teldruf_map_triples(const uint8_t *picture, size_t picture_len, uint32_t width, uint32_t height, uint32_t neighbours,
+                             const uint32_t *steps, size_t steps_len, uint32_t gap, uint32_t *workspace, size_t workspace_len,
+                             uint8_t *residue, size_t residue_len, uint16_t *index, size_t index_len);
+
+/*
+ * Gives the maps of dark floc on light water for a list of triples: what teldruf_map_triples gives for the reversed picture. Lent,
+ * answered and refused as there. Accepted, the workspace holds the record of the reversed picture.
+ */
+uint64_t teldruf_dark_map_triples(const uint8_t *picture, size_t picture_len, uint32_t width, uint32_t height, uint32_t neighbours,
+                                  const uint32_t *steps, size_t steps_len, uint32_t gap, uint32_t *workspace, size_t workspace_len,
+                                  uint8_t *residue, size_t residue_len, uint16_t *index, size_t index_len);
+
+/*
+ * Gives the maps of light and dark floc together for a list of triples: of the two calls above, at each pixel, the side that wins, and
+ * the contrast, as teldruf_combined_map has them. Lent, answered and refused as teldruf_map_triples, with the contrast as one output more.
+ * Accepted, the workspace holds the record of the reversed picture.
+ */
+uint64_t teldruf_combined_map_triples(const uint8_t *picture, size_t picture_len, uint32_t width, uint32_t height,
+                                      uint32_t neighbours, const uint32_t *steps, size_t steps_len, uint32_t gap,
+                                      uint32_t *workspace, size_t workspace_len, uint8_t *residue, size_t residue_len,
+                                      uint16_t *index, size_t index_len, int16_t *contrast, size_t contrast_len);
 
 /*
  * Finds a row, from 0, in the residue map of one side or the other; nothing is copied. Lent: the light residue map and the dark one,

@@ -8,6 +8,7 @@ Neighbours are the 4 pixels that share an edge with a pixel; with neighbours=8 t
 What touches the first or last row or column has the size 1,048,577 by every attribute, so no threshold removes it.
 Blurred floc falls at several steps; with a gap above 0, falls at most so many places of the list apart are added up.
 Dark floc on light water has maps of its own, `dark_map`, and `combined_map` takes at each pixel the side of larger contrast.
+A step may be an area, a height and a width together, as in `map_triples(picture, [(8, 0, 0), (16, 3, 3)])`: what meets all three stays.
 
 A picture is a Picture, whose raster is bytes or another buffer of bytes (bytearray, memoryview, numpy array of uint8), or a buffer
 of bytes with rows and columns, such as a numpy array of two dimensions. Results are bytes or arrays, row by row; where the greys
@@ -28,8 +29,9 @@ import sys
 from array import array
 from typing import Any, NamedTuple
 
-__all__ = ["ATTRIBUTES", "CombinedMaps", "Maps", "Picture", "Refused", "SIDES", "Tree", "build", "cause_text", "combined_map",
-           "dark_map", "load", "map", "open", "read", "view_row", "write"]
+__all__ = ["ATTRIBUTES", "CombinedMaps", "Maps", "Picture", "Refused", "SIDES", "Tree", "Triple", "build", "cause_text", "combined_map",
+           "combined_map_triples", "dark_map", "dark_map_triples", "load", "map", "map_triples", "open", "open_triple", "read",
+           "view_row", "write"]
 
 ATTRIBUTES = {"area": 1, "height": 2, "width": 3}
 SIDES = {"light": 1, "dark": 2}
@@ -40,7 +42,8 @@ _CAUSES = {
     1: "width or height outside 1 to 4,096, or more than 1,048,576 pixels",
     2: "picture bytes not width x height",
     3: "attribute not 1, 2 or 3 (area, height or width)",
-    4: "threshold outside 1 to 1,048,577, or step list empty, over 256 or not strictly rising",
+    4: "threshold outside 1 to 1,048,577, triple of zeros or with a part above that, or step list empty, over 256, cut short or "
+       "not strictly rising",
     5: "workspace not 7 words a pixel",
     6: "an output or a map not one entry a pixel",
     7: "the writer's buffer shorter than the file",
@@ -83,6 +86,15 @@ class Picture(NamedTuple):
     height: int
     maximum: int
     raster: Any
+
+
+class Triple(NamedTuple):
+    """A step by area, height and width together, each from 0 to 1,048,577; any three numbers in this order can stand for it. A threshold
+    opens as the triple that has it for its attribute and 0 for the two others."""
+
+    area: int = 0
+    height: int = 0
+    width: int = 0
 
 
 class Tree(NamedTuple):
@@ -142,30 +154,45 @@ def build(picture, attribute="area", *, neighbours=4):
 
 def open(picture, threshold, attribute="area", *, neighbours=4):
     """The picture opened at a threshold: a Picture if a Picture is given, else its greys."""
-    taken, greys = _taken(picture)
-    threshold = _word(threshold, "a threshold")
-    workspace, output = _workspace(greys), _entries("B", greys)
-    _call("open", *_lend(greys), taken.width, taken.height, _attribute(attribute), _neighbours(neighbours), threshold,
-          *_lend(workspace), *_lend(output))
-    opened = taken._replace(raster=_like(taken.raster, output))
-    return opened if isinstance(picture, Picture) else opened.raster
+    return _opened("open", picture, _attribute(attribute), _neighbours(neighbours), _word(threshold, "a threshold"))
+
+
+def open_triple(picture, triple, *, neighbours=4):
+    """The picture opened by a triple, (area, height, width): what meets all three stays."""
+    return _opened("open_triple", picture, _neighbours(neighbours), *_triple(triple))
 
 
 def map(picture, steps, attribute="area", *, neighbours=4, gap=0):
     """The Maps of a picture, residue and index, for strictly rising steps. An index is a place in the list: its size is
     steps[index - 1]. Two residues that are not 0, with only 0 between them, belong to one run if their places in the list differ by at
     most the gap, 0 to 256."""
-    return Maps(*_mapped("map", "BH", picture, steps, attribute, neighbours, gap))
+    return Maps(*_mapped("map", "BH", picture, [_attribute(attribute), _neighbours(neighbours)], _steps(steps), gap))
 
 
 def dark_map(picture, steps, attribute="area", *, neighbours=4, gap=0):
     """The Maps of dark floc on light water: those of the reversed picture, 255 less each grey."""
-    return Maps(*_mapped("dark_map", "BH", picture, steps, attribute, neighbours, gap))
+    return Maps(*_mapped("dark_map", "BH", picture, [_attribute(attribute), _neighbours(neighbours)], _steps(steps), gap))
 
 
 def combined_map(picture, steps, attribute="area", *, neighbours=4, gap=0):
     """The CombinedMaps of a picture, light and dark floc together: residue, index and contrast."""
-    return CombinedMaps(*_mapped("combined_map", "BHh", picture, steps, attribute, neighbours, gap))
+    return CombinedMaps(*_mapped("combined_map", "BHh", picture, [_attribute(attribute), _neighbours(neighbours)], _steps(steps), gap))
+
+
+def map_triples(picture, triples, *, neighbours=4, gap=0):
+    """The Maps of a picture for steps that are triples, (area, height, width): from one to the next no part falls and at least one
+    rises. An index is a place in this list."""
+    return Maps(*_mapped("map_triples", "BH", picture, [_neighbours(neighbours)], _triples(triples), gap))
+
+
+def dark_map_triples(picture, triples, *, neighbours=4, gap=0):
+    """The Maps of dark floc on light water for steps that are triples."""
+    return Maps(*_mapped("dark_map_triples", "BH", picture, [_neighbours(neighbours)], _triples(triples), gap))
+
+
+def combined_map_triples(picture, triples, *, neighbours=4, gap=0):
+    """The CombinedMaps of a picture, light and dark floc together, for steps that are triples."""
+    return CombinedMaps(*_mapped("combined_map_triples", "BHh", picture, [_neighbours(neighbours)], _triples(triples), gap))
 
 
 def view_row(light, dark, width, height, row, side):
@@ -178,13 +205,21 @@ def view_row(light, dark, width, height, row, side):
     return maps[side - 1].cast("B")[start:start + width]
 
 
-def _mapped(name, codes, picture, steps, attribute, neighbours, gap):
-    """The outputs of a map call, whose entries have these codes of `array`."""
+def _opened(name, picture, *named):
+    """The output of an opening call with these words after the sides: a Picture if a Picture is given, else its greys."""
+    taken, greys = _taken(picture)
+    workspace, output = _workspace(greys), _entries("B", greys)
+    _call(name, *_lend(greys), taken.width, taken.height, *named, *_lend(workspace), *_lend(output))
+    opened = taken._replace(raster=_like(taken.raster, output))
+    return opened if isinstance(picture, Picture) else opened.raster
+
+
+def _mapped(name, codes, picture, named, steps, gap):
+    """The outputs of a map call with these words before its steps; the entries of the outputs have these codes of `array`."""
     picture, greys = _taken(picture)
-    listed = array("I", [_word(step, "a step") for step in steps])
     workspace, outputs = _workspace(greys), [_entries(code, greys) for code in codes]
-    _call(name, *_lend(greys), picture.width, picture.height, _attribute(attribute), _neighbours(neighbours), *_lend(listed),
-          _word(gap, "a gap"), *_lend(workspace), *(word for output in outputs for word in _lend(output)))
+    _call(name, *_lend(greys), picture.width, picture.height, *named, *_lend(steps), _word(gap, "a gap"), *_lend(workspace),
+          *(word for output in outputs for word in _lend(output)))
     return [_like(picture.raster, output) for output in outputs]
 
 
@@ -215,6 +250,26 @@ def _attribute(attribute):
 
 def _neighbours(neighbours):
     return _word(neighbours, "a number of neighbours")
+
+
+def _steps(steps):
+    return array("I", [_word(step, "a step") for step in steps])
+
+
+def _triple(triple):
+    """The three words of a triple."""
+    try:
+        parts = tuple(triple)
+    except TypeError:
+        raise TypeError(f"a triple is an area, a height and a width, not {triple!r}") from None
+    if len(parts) != 3:
+        raise ValueError(f"a triple is an area, a height and a width, not {len(parts)} parts")
+    return [_word(part, "a part of a triple") for part in parts]
+
+
+def _triples(triples):
+    """The words of a list of triples, three to a step."""
+    return array("I", [word for triple in triples for word in _triple(triple)])
 
 
 def _view(buffer, what):
@@ -320,15 +375,19 @@ def load(path):
     library = ctypes.CDLL(os.path.abspath(path))
     word, run = ctypes.c_uint32, [ctypes.c_void_p, ctypes.c_size_t]
     picture = run + [word, word]
-    maps = picture + [word, word] + run + [word] + run + run + run
+    maps = run + [word] + run + run + run  # from the steps on
     signatures = {
         "read_pgm": run + [ctypes.c_void_p],
         "write_pgm": picture + [word] + run,
         "build": picture + [word, word] + run,
         "open": picture + [word, word, word] + run + run,
-        "map": maps,
-        "dark_map": maps,
-        "combined_map": maps + run,
+        "map": picture + [word, word] + maps,
+        "dark_map": picture + [word, word] + maps,
+        "combined_map": picture + [word, word] + maps + run,
+        "open_triple": picture + [word, word, word, word] + run + run,
+        "map_triples": picture + [word] + maps,
+        "dark_map_triples": picture + [word] + maps,
+        "combined_map_triples": picture + [word] + maps + run,
         "view_row": run + run + [word, word, word, word],
     }
     for name, arguments in signatures.items():
