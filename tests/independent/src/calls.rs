@@ -1,6 +1,6 @@
 // Build, open and the three map calls on random pictures, under both neighbourhoods, maps at gap 0
-// and at another: accepted calls against the definitions, refused ones against the causes, each
-// cause alone and in pairs.
+// and at another; open and maps given thresholds and given triples: accepted calls against the
+// definitions, refused ones against the causes, each cause alone and in pairs.
 
 use crate::causes::{refusal, Named, NEIGHBOURHOODS, ORDER};
 use crate::causes::{MOST_GAP, MOST_STEPS, MOST_THRESHOLD, WORDS_A_PIXEL};
@@ -8,19 +8,25 @@ use crate::damage;
 use crate::dark;
 use crate::definition::{Component, Levels, Picture, Record, CUT};
 use crate::fast::Forest;
-use crate::interface::{self, MapCall, Mapping, Numbers, MAP_CALLS};
+use crate::interface::{self, Given, MapCall, Mapping, Numbers, MAP_CALLS};
 use crate::lent::Lent;
+use crate::parts::{self, Triple};
 use crate::pictures;
 use crate::random::Random;
 use crate::report::{answer_fault, refused, Report};
 use crate::runs::Maps;
+use crate::table::AREA;
+use crate::triples::{node_sizes, triple, triple_list};
 use std::cell::OnceCell;
 
 /// What is named and lent in a call; each call takes its part of it.
 #[derive(Clone, Debug)]
 pub struct Call {
     pub picture: Vec<u8>,
+    /// A call given triples names no attribute.
     pub numbers: Numbers,
+    pub given: Given,
+    /// One word to a threshold, three to a triple. An opening takes the first step.
     pub steps: Vec<u32>,
     pub gap: u32,
     pub workspace: usize,
@@ -29,7 +35,7 @@ pub struct Call {
 }
 
 impl Call {
-    /// At gap 0.
+    /// Given thresholds, at gap 0.
     pub fn good(picture: &Picture, attribute: u32, neighbours: u32, steps: Vec<u32>) -> Call {
         let n = picture.pixels();
         let numbers = Numbers {
@@ -41,11 +47,55 @@ impl Call {
         Call {
             picture: picture.greys.clone(),
             numbers,
+            given: Given::Thresholds,
             steps,
             gap: 0,
             workspace: WORDS_A_PIXEL * n,
             outputs: [n; 3],
         }
+    }
+
+    /// Given triples, at gap 0.
+    pub fn triples(picture: &Picture, neighbours: u32, triples: &[Triple]) -> Call {
+        Call {
+            given: Given::Triples,
+            ..Call::good(picture, AREA, neighbours, triples.concat())
+        }
+    }
+
+    /// The same call given triples with two zeros for its thresholds, those of area if it names no
+    /// attribute that there is. The cause due is the same, unless it is 3.
+    pub fn by_triples(&self) -> Call {
+        let attribute = match self.numbers.attribute {
+            known @ 1..=3 => known,
+            _ => AREA,
+        };
+        let triple = |t: &u32| parts::of_threshold(attribute, *t);
+        Call {
+            given: Given::Triples,
+            steps: self.steps.iter().flat_map(triple).collect(),
+            ..self.clone()
+        }
+    }
+
+    fn words_a_step(&self) -> usize {
+        match self.given {
+            Given::Thresholds => 1,
+            Given::Triples => 3,
+        }
+    }
+
+    /// The call at each of its steps alone.
+    pub fn singles(&self) -> Vec<Call> {
+        let single = |step: &[u32]| Call {
+            steps: step.to_vec(),
+            ..self.clone()
+        };
+        self.steps.chunks(self.words_a_step()).map(single).collect()
+    }
+
+    fn triple(&self) -> Triple {
+        parts::triples(&self.steps)[0]
     }
 
     /// No gap; a map call names one besides.
@@ -54,13 +104,21 @@ impl Call {
             width: self.numbers.width,
             height: self.numbers.height,
             picture: self.picture.len(),
-            attribute: self.numbers.attribute,
+            attribute: match self.given {
+                Given::Thresholds => Some(self.numbers.attribute),
+                Given::Triples => None,
+            },
             neighbours: self.numbers.neighbours,
+            given: self.given,
             steps,
             gap: None,
             workspace: self.workspace,
             outputs: &self.outputs[..outputs],
         }
+    }
+
+    pub fn named_open(&self) -> Named<'_> {
+        self.named(Some(&self.steps[..self.words_a_step()]), 1)
     }
 
     pub fn named_map<'a>(&'a self, which: MapCall, steps: &'a [u32]) -> Named<'a> {
@@ -77,6 +135,41 @@ impl Call {
             ..self.clone()
         }
     }
+
+    /// What is due of it in the workspace if it is accepted. A call given triples leaves areas as
+    /// its attribute words.
+    pub fn record(&self, truth: &dyn Truth) -> Record {
+        match self.given {
+            Given::Thresholds => truth.record(self.numbers.attribute),
+            Given::Triples => truth.record(AREA),
+        }
+    }
+
+    pub fn opening(&self, truth: &dyn Truth) -> Vec<u8> {
+        match self.given {
+            Given::Thresholds => truth.opening(self.numbers.attribute, self.steps[0]),
+            Given::Triples => truth.triple_opening(self.triple()),
+        }
+    }
+
+    /// At each gap.
+    pub fn maps(&self, truth: &dyn Truth, gaps: &[u32]) -> Vec<Maps> {
+        match self.given {
+            Given::Thresholds => truth.maps(self.numbers.attribute, &self.steps, gaps),
+            Given::Triples => truth.triple_maps(&parts::triples(&self.steps), gaps),
+        }
+    }
+
+    pub fn open_name(&self) -> &'static str {
+        match self.given {
+            Given::Thresholds => "open",
+            Given::Triples => "open triple",
+        }
+    }
+
+    pub fn map_name(&self, which: MapCall) -> &'static str {
+        which.name(self.given)
+    }
 }
 
 /// What the definitions say of a picture under one neighbourhood, worked out at need.
@@ -85,6 +178,9 @@ pub trait Truth {
     fn opening(&self, attribute: u32, threshold: u32) -> Vec<u8>;
     /// At each gap.
     fn maps(&self, attribute: u32, steps: &[u32], gaps: &[u32]) -> Vec<Maps>;
+    fn triple_opening(&self, triple: Triple) -> Vec<u8>;
+    /// At each gap.
+    fn triple_maps(&self, triples: &[Triple], gaps: &[u32]) -> Vec<Maps>;
     /// What they say of 255 less each grey.
     fn reversed(&self) -> &dyn Truth;
 }
@@ -115,6 +211,12 @@ impl Truth for ByDefinition {
     fn maps(&self, attribute: u32, steps: &[u32], gaps: &[u32]) -> Vec<Maps> {
         self.levels.maps(&self.picture, attribute, steps, gaps)
     }
+    fn triple_opening(&self, triple: Triple) -> Vec<u8> {
+        self.levels.triple_opening(triple)
+    }
+    fn triple_maps(&self, triples: &[Triple], gaps: &[u32]) -> Vec<Maps> {
+        self.levels.triple_maps(&self.picture, triples, gaps)
+    }
     fn reversed(&self) -> &dyn Truth {
         let reversed = || ByDefinition::of(&self.picture.reversed(), self.levels.neighbours);
         &**self.reversed.get_or_init(|| Box::new(reversed()))
@@ -130,6 +232,12 @@ impl Truth for Forest {
     }
     fn maps(&self, attribute: u32, steps: &[u32], gaps: &[u32]) -> Vec<Maps> {
         Forest::maps(self, attribute, steps, gaps)
+    }
+    fn triple_opening(&self, triple: Triple) -> Vec<u8> {
+        Forest::triple_opening(self, triple)
+    }
+    fn triple_maps(&self, triples: &[Triple], gaps: &[u32]) -> Vec<Maps> {
+        Forest::triple_maps(self, triples, gaps)
     }
     fn reversed(&self) -> &dyn Truth {
         Forest::reversed(self)
@@ -168,38 +276,52 @@ pub fn check_build(
     words.is_some().then(|| workspace.now().to_vec())
 }
 
-/// Hands back the output, for the next call of a chain.
-pub fn check_open(
+/// Hands back what an opening call wrote: the workspace, and the output for the next call of a chain.
+pub fn check_opening(
     report: &mut Report,
     random: &mut Random,
     call: &Call,
     truth: &dyn Truth,
-) -> Option<Vec<u8>> {
-    let threshold = call.steps[0];
+) -> Option<(Vec<u32>, Vec<u8>)> {
     let picture = Lent::holding(random, &call.picture);
     let mut workspace = Lent::dirty(random, call.workspace);
     let mut output = Lent::dirty(random, call.outputs[0]);
-    let answer = interface::open(
-        picture.now(),
-        call.numbers,
-        threshold,
-        workspace.now_mut(),
-        output.now_mut(),
-    );
-    let outcome = refusal(&call.named(Some(&[threshold]), 1));
-    let attribute = call.numbers.attribute;
+    let answer = made_open(call, picture.now(), workspace.now_mut(), output.now_mut());
+    let outcome = refusal(&call.named_open());
     let accepted = outcome.is_ok();
-    let words = accepted.then(|| truth.record(attribute).workspace());
-    let opened = accepted.then(|| truth.opening(attribute, threshold));
-    let answer_due = due(report, "open", outcome.map(|()| 0));
+    let words = accepted.then(|| call.record(truth).workspace());
+    let opened = accepted.then(|| call.opening(truth));
+    let answer_due = due(report, call.open_name(), outcome.map(|()| 0));
     let fault = first_fault([
         answer_fault(answer, answer_due),
         picture.fault("picture", None),
         workspace.fault("workspace", words.as_deref()),
         output.fault("output", opened.as_deref()),
     ]);
-    report.check(fault, || shown("open", call));
-    accepted.then(|| output.now().to_vec())
+    report.check(fault, || shown(call.open_name(), call));
+    accepted.then(|| (workspace.now().to_vec(), output.now().to_vec()))
+}
+
+/// The answer of an opening call that is lent these.
+pub fn made_open(call: &Call, picture: &[u8], workspace: &mut [u32], output: &mut [u8]) -> u64 {
+    match call.given {
+        Given::Thresholds => {
+            interface::open(picture, call.numbers, call.steps[0], workspace, output)
+        }
+        Given::Triples => {
+            interface::open_triple(picture, call.numbers, call.triple(), workspace, output)
+        }
+    }
+}
+
+/// Hands back the output.
+pub fn check_open(
+    report: &mut Report,
+    random: &mut Random,
+    call: &Call,
+    truth: &dyn Truth,
+) -> Option<Vec<u8>> {
+    check_opening(report, random, call, truth).map(|(_, output)| output)
 }
 
 /// What a map call writes, or has written.
@@ -260,6 +382,7 @@ fn check_one_map(
     let mapping = Mapping {
         picture: picture.now(),
         numbers: call.numbers,
+        given: call.given,
         steps: steps.now(),
         gap: call.gap,
         workspace: runs.workspace.now_mut(),
@@ -268,22 +391,21 @@ fn check_one_map(
         contrast: runs.contrast.now_mut(),
     };
     let answer = interface::map(which, mapping);
-    let answer_due = due(report, which.name(), outcome.map(|_| 0));
+    let answer_due = due(report, call.map_name(which), outcome.map(|_| 0));
     let fault = first_fault([
         answer_fault(answer, answer_due),
         picture.fault("picture", None),
         steps.fault("steps", None),
         runs.fault(outcome.ok()),
     ]);
-    report.check(fault, || shown(which.name(), call));
+    report.check(fault, || shown(call.map_name(which), call));
     runs
 }
 
 /// What is due of an accepted map call on the picture that the truth is of.
 fn written(which: MapCall, call: &Call, truth: &dyn Truth) -> Written {
-    let attribute = call.numbers.attribute;
-    let maps = |side: &dyn Truth| side.maps(attribute, &call.steps, &[call.gap]).remove(0);
-    let left = |side: &dyn Truth| side.record(attribute).workspace();
+    let maps = |side: &dyn Truth| call.maps(side, &[call.gap]).remove(0);
+    let left = |side: &dyn Truth| call.record(side).workspace();
     match which {
         MapCall::Light => Written {
             workspace: left(truth),
@@ -339,10 +461,9 @@ pub fn check_gaps(
     turn: usize,
 ) -> Vec<Maps> {
     let (mut call, mut reversed) = (call.clone(), call.reversed());
-    let (attribute, steps) = (call.numbers.attribute, call.steps.clone());
-    let maps = truth.maps(attribute, &steps, gaps);
+    let maps = call.maps(truth, gaps);
     let mut due = Written {
-        workspace: truth.record(attribute).workspace(),
+        workspace: call.record(truth).workspace(),
         maps: Maps::default(),
         contrast: Vec::new(),
     };
@@ -355,7 +476,7 @@ pub fn check_gaps(
         if turn % 4 == 0 {
             check_one_map(report, random, MapCall::Dark, &reversed, Ok(&due));
         } else if turn % 4 == 2 {
-            let beside = truth.reversed().maps(attribute, &steps, &[*gap]);
+            let beside = call.maps(truth.reversed(), &[*gap]);
             (due.maps, due.contrast) = dark::combined(&beside[0], &due.maps);
             check_one_map(report, random, MapCall::Combined, &reversed, Ok(&due));
         }
@@ -365,11 +486,12 @@ pub fn check_gaps(
 
 pub fn shown(name: &str, call: &Call) -> String {
     if call.picture.len() > 400 {
-        let (bytes, steps) = (call.picture.len(), call.steps.len());
-        let (numbers, gap) = (call.numbers, call.gap);
+        let (bytes, words) = (call.picture.len(), call.steps.len());
+        let (numbers, given, gap) = (call.numbers, call.given, call.gap);
         let lent = (call.workspace, call.outputs);
         return format!(
-            "{name}: {bytes} bytes, {numbers:?}, {steps} steps, gap {gap}, lent {lent:?}"
+            "{name}: {bytes} bytes, {numbers:?}, {given:?} in {words} words, gap {gap}, \
+             lent {lent:?}"
         );
     }
     format!("{name}: {call:?}")
@@ -437,10 +559,15 @@ pub fn any_good(random: &mut Random, case: usize) -> (Picture, Call) {
 
 type Check = fn(&mut Report, &mut Random, &Call, &dyn Truth);
 
-pub const CHECKS: [Check; 3] = [
+/// Of a call given thresholds; opening and maps by the same call given triples too.
+pub const CHECKS: [Check; 5] = [
     |report, random, call, truth| drop(check_build(report, random, call, truth)),
     |report, random, call, truth| drop(check_open(report, random, call, truth)),
     check_maps,
+    |report, random, call, truth| {
+        check_open(report, random, &call.by_triples(), truth);
+    },
+    |report, random, call, truth| check_maps(report, random, &call.by_triples(), truth),
 ];
 
 /// Sets of causes to be made to apply: each alone, each pair, all.
@@ -472,6 +599,23 @@ fn check_good(
     report.met("joined", u64::from(maps[0] != maps[1]));
     let single = vec![threshold(random, &values)];
     let call = Call::good(picture, attribute, truth.levels.neighbours, single);
+    check_open(report, random, &call, truth);
+}
+
+/// Triples near the sizes of the picture's nodes.
+fn check_good_triples(
+    report: &mut Report,
+    random: &mut Random,
+    picture: &Picture,
+    truth: &ByDefinition,
+) {
+    let neighbours = truth.levels.neighbours;
+    let sizes = node_sizes(&truth.levels);
+    let call = Call::triples(picture, neighbours, &triple_list(random, &sizes));
+    let gaps = [0, any_gap(random)];
+    let turn = random.below(4);
+    check_gaps(report, random, &call, &gaps, truth, turn);
+    let call = Call::triples(picture, neighbours, &[triple(random, &sizes)]);
     check_open(report, random, &call, truth);
 }
 
@@ -510,6 +654,7 @@ fn check_damaged(
         }
         damage::list_order(random, &mut damaged);
         check_maps(report, random, &damaged, truth);
+        check_maps(report, random, &damaged.by_triples(), truth);
     }
 }
 
@@ -522,16 +667,20 @@ fn check_fast(report: &mut Report, random: &mut Random, truth: &ByDefinition) {
     let attribute = random.between(1, 3) as u32;
     let values = attribute_values(levels, attribute);
     let steps = step_list(random, &values);
+    let triples = triple_list(random, &node_sizes(levels));
     let gaps = [0, any_gap(random)];
-    let same = levels.record(attribute) == forest.record(attribute)
-        && levels.opening(attribute, steps[0]) == forest.opening(attribute, steps[0])
-        && levels.maps(picture, attribute, &steps, &gaps) == forest.maps(attribute, &steps, &gaps);
-    let fault = (!same).then(|| String::from("fast and plain implementation differ"));
-    report.check(fault, || {
-        let neighbours = levels.neighbours;
-        let named = (attribute, neighbours, &steps, gaps);
-        format!("{picture:?} attribute, neighbours, steps and gaps {named:?}")
-    });
+    let neighbours = levels.neighbours;
+    let calls = [
+        Call::good(picture, attribute, neighbours, steps),
+        Call::triples(picture, neighbours, &triples),
+    ];
+    for call in calls {
+        let same = call.record(truth) == call.record(&forest)
+            && call.opening(truth) == call.opening(&forest)
+            && call.maps(truth, &gaps) == call.maps(&forest, &gaps);
+        let fault = (!same).then(|| String::from("fast and plain implementation differ"));
+        report.check(fault, || shown(&format!("gaps {gaps:?}"), &call));
+    }
 }
 
 pub fn run(report: &mut Report, seed: u64, cases: usize) {
@@ -544,6 +693,7 @@ pub fn run(report: &mut Report, seed: u64, cases: usize) {
             for attribute in 1..=3 {
                 check_good(report, &mut random, &picture, &truth, attribute);
             }
+            check_good_triples(report, &mut random, &picture, &truth);
             let causes = &damages[case % damages.len()];
             check_damaged(report, &mut random, &picture, &truth, causes);
             check_fast(report, &mut random, &truth);
@@ -551,8 +701,12 @@ pub fn run(report: &mut Report, seed: u64, cases: usize) {
     }
     report.check_all_met("build", &[0, 1, 2, 3, 17, 5]);
     report.check_all_met("open", &[0, 1, 2, 3, 17, 4, 5, 6]);
+    report.check_all_met("open triple", &[0, 1, 2, 17, 4, 5, 6]);
     for which in MAP_CALLS {
-        report.check_all_met(which.name(), &[0, 1, 2, 3, 17, 4, 19, 5, 6]);
+        let name = which.name(Given::Thresholds);
+        report.check_all_met(name, &[0, 1, 2, 3, 17, 4, 19, 5, 6]);
+        let name = which.name(Given::Triples);
+        report.check_all_met(name, &[0, 1, 2, 17, 4, 19, 5, 6]);
     }
     println!("  maps of good calls without residues (0) or with some (1):");
     report.check_all_met("residues", &[0, 1]);

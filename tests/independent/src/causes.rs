@@ -1,8 +1,9 @@
 // The scope, "Causes and their numbers", and the requests that a call names 4 or 8 neighbours, that
-// a map call names a gap, that a workspace has room for the list of nodes, and that a viewer names
-// a row and a side: what is refused, in its order.
+// a map call names a gap, that a workspace has room for the list of nodes, that a viewer names a row
+// and a side, and that a call may be given triples: what is refused, in its order.
 
-use crate::interface::View;
+use crate::interface::{Given, View};
+use crate::parts;
 
 pub const MOST_SIDE: u64 = 4096;
 pub const MOST_PIXELS: u64 = 1_048_576;
@@ -16,7 +17,8 @@ pub const WORDS_A_PIXEL: usize = 7;
 /// How many neighbours a call may name.
 pub const NEIGHBOURHOODS: [u32; 2] = [4, 8];
 
-/// The causes of a call on a picture, in their order.
+/// The causes of a call on a picture, in their order. Of these, 3 does not apply to calls given
+/// triples.
 pub const ORDER: [u32; 8] = [1, 2, 3, 17, 4, 19, 5, 6];
 
 /// n, or 1 for a side or an n out of bounds.
@@ -38,14 +40,16 @@ pub fn is_step_list(steps: &[u32]) -> bool {
         && steps.windows(2).all(|pair| pair[0] < pair[1])
 }
 
-/// What a call on a picture names and is lent. One threshold stands as a list of one; building has
-/// no list and no outputs, and only a map call names a gap.
+/// What a call on a picture names and is lent. One threshold or triple stands as a list of one;
+/// building has no list and no outputs, and only a map call names a gap. A call given triples names
+/// no attribute.
 pub struct Named<'a> {
     pub width: u32,
     pub height: u32,
     pub picture: usize,
-    pub attribute: u32,
+    pub attribute: Option<u32>,
     pub neighbours: u32,
+    pub given: Given,
     pub steps: Option<&'a [u32]>,
     pub gap: Option<u32>,
     pub workspace: usize,
@@ -56,9 +60,14 @@ pub struct Named<'a> {
 fn applies(call: &Named, n: usize, cause: u32) -> bool {
     match cause {
         2 => call.picture != n,
-        3 => !(1..=3).contains(&call.attribute),
+        3 => call
+            .attribute
+            .is_some_and(|number| !(1..=3).contains(&number)),
         17 => !NEIGHBOURHOODS.contains(&call.neighbours),
-        4 => call.steps.is_some_and(|steps| !is_step_list(steps)),
+        4 => call.steps.is_some_and(|steps| match call.given {
+            Given::Thresholds => !is_step_list(steps),
+            Given::Triples => !parts::is_list(steps),
+        }),
         19 => call.gap.is_some_and(|gap| gap > MOST_GAP),
         5 => call.workspace != WORDS_A_PIXEL * n,
         _ => call.outputs.iter().any(|entries| *entries != n),

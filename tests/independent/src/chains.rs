@@ -4,7 +4,8 @@
 // 0, and joined what it writes at another. One neighbourhood is named in all accepted calls, the
 // single opening and the map call, and levelings are judged by it. A list that mixes neighbourhoods
 // is no chain: only each of its calls by itself is held to the definitions. The same holds of the
-// reversed original, whose falls are what the dark map call on the original writes.
+// reversed original, whose falls are what the dark map call on the original writes. Chains that mix
+// attributes and triples stand in mixed.rs.
 
 use crate::calls::{any_gap, attribute_values, check_map, check_open, step_list, threshold};
 use crate::calls::{ByDefinition, Call};
@@ -73,7 +74,7 @@ impl Chain {
 
 /// A call that is refused, on the picture that the chain hands on, by any attribute and under any
 /// neighbourhood.
-fn bad_call(random: &mut Random, good: &Call) -> Call {
+pub fn bad_call(random: &mut Random, good: &Call) -> Call {
     loop {
         let mut call = good.clone();
         call.numbers.attribute = random.between(1, 3) as u32;
@@ -87,7 +88,7 @@ fn bad_call(random: &mut Random, good: &Call) -> Call {
                 cause => damage::apply(random, &mut call, cause),
             }
         }
-        if refusal(&call.named(Some(&call.steps[..1]), 1)).is_err() {
+        if refusal(&call.named_open()).is_err() {
             return call;
         }
     }
@@ -181,7 +182,7 @@ fn check_falls(report: &mut Report, random: &mut Random, chain: &Chain, which: M
         call.gap = gap;
         let written = check_map(report, random, which, &call, &truth);
         let same = written.is_some_and(|written| written.maps == falls);
-        let fault = (!same).then(|| format!("falls at gap {gap} are no {}", which.name()));
+        let fault = (!same).then(|| format!("falls at gap {gap} are no {}", call.map_name(which)));
         report.check(fault, || chain.shown());
     }
 }

@@ -3,15 +3,19 @@
 use crate::calls::Call;
 use crate::causes::{pixels, NEIGHBOURHOODS, WORDS_A_PIXEL};
 use crate::causes::{MOST_GAP, MOST_STEPS, MOST_THRESHOLD};
+use crate::interface::Given;
 use crate::random::Random;
+use crate::triples::walk;
 
-/// Makes one of the causes apply to the call, whatever else does.
+/// Makes one of the causes apply to the call, whatever else does. To a call given triples 3 never
+/// does.
 pub fn apply(random: &mut Random, call: &mut Call, cause: u32) {
     match cause {
         1 => sides(random, call),
         2 => picture(random, call),
         3 => call.numbers.attribute = wrong_attribute(random),
         17 => call.numbers.neighbours = wrong_neighbours(random),
+        4 if call.given == Given::Triples => triples(random, call),
         4 => steps(random, call),
         19 => call.gap = wrong_gap(random),
         5 => call.workspace = random.pick(&all_wrong_workspaces(call.picture.len())),
@@ -176,7 +180,71 @@ fn steps(random: &mut Random, call: &mut Call) {
     }
 }
 
-/// A list that is empty, too long or not strictly rising, every threshold in range.
+/// Numbers that are no part of a triple.
+pub const WRONG_PARTS: [u32; 5] = [
+    MOST_THRESHOLD + 1,
+    MOST_THRESHOLD + 2,
+    1 << 24,
+    1 << 31,
+    u32::MAX,
+];
+
+/// A part out of range, or a first triple of three zeros. A call with one triple takes the first of
+/// the list.
+fn triples(random: &mut Random, call: &mut Call) {
+    let (wrong, part) = (random.pick(&WRONG_PARTS), random.below(3));
+    let last = call.steps.len() - 3;
+    match random.below(6) {
+        0 => call.steps[part] = wrong,
+        1 => call.steps[last + part] = wrong,
+        2 => call.steps.fill(wrong),
+        3 => call.steps[..3].fill(0),
+        4 => drop(call.steps.splice(..0, [0; 3])),
+        _ => {
+            call.steps.splice(..0, [0; 3]);
+            call.steps[part] = wrong;
+        }
+    }
+}
+
+/// A list that is empty, too long, cut short or not rising, every part in range and the first triple
+/// none of zeros.
+pub fn triple_order(random: &mut Random, call: &mut Call) {
+    let first = 3 * random.below(call.steps.len() / 3);
+    let step = call.steps[first..first + 3].to_vec();
+    match random.below(8) {
+        0 => call.steps.clear(),
+        1 => call.steps = walk(random, MOST_STEPS + 1).concat(),
+        2 => {
+            let length = random.between(MOST_STEPS + 1, 3 * MOST_STEPS);
+            call.steps = walk(random, length).concat();
+        }
+        3 => drop(call.steps.splice(first..first, step)),
+        4 => {
+            let left = call.steps.len() - random.between(1, 2);
+            call.steps.truncate(left);
+        }
+        5 => call.steps.push(MOST_THRESHOLD),
+        6 => call.steps.extend([MOST_THRESHOLD; 2]),
+        _ => {
+            let fallen = fallen(random, &step);
+            call.steps.splice(first + 3..first + 3, fallen);
+        }
+    }
+}
+
+/// A step after which one part has fallen, by one or to 0; the others stay or rise.
+fn fallen(random: &mut Random, step: &[u32]) -> Vec<u32> {
+    let above: Vec<usize> = (0..3).filter(|part| step[*part] > 0).collect();
+    let falling = random.pick(&above);
+    let by = random.pick(&[1, step[falling]]);
+    let rise = random.below(3) as u32;
+    let mut next: Vec<u32> = step.iter().map(|part| part + rise).collect();
+    next[falling] = step[falling] - by;
+    next.iter().map(|part| *part.min(&MOST_THRESHOLD)).collect()
+}
+
+/// A list of thresholds that is empty, too long or not strictly rising, every one in range.
 pub fn list_order(random: &mut Random, call: &mut Call) {
     match random.below(6) {
         0 => call.steps.clear(),

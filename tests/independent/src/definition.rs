@@ -1,11 +1,12 @@
 // The scope, "Picture, nodes, openings", "Steps and maps" and "Tree record", word for word: level
 // sets, components by flood fill, nodes, representatives, parents, openings, residues; and the
 // requests on floc cut by the frame and on the list of nodes. How residues are joined stands in
-// runs.rs, and what is said of dark floc in dark.rs. Nothing here is meant to be fast. How many
-// neighbours there are, 4 or 8, is named wherever it matters.
+// runs.rs, what is said of dark floc in dark.rs, and what triples are in parts.rs. Nothing here is
+// meant to be fast. How many neighbours there are, 4 or 8, is named wherever it matters.
 
 use crate::causes::{NEIGHBOURHOODS, WORDS_A_PIXEL};
 use crate::dark;
+use crate::parts::{self, Triple};
 use crate::runs::{self, Maps};
 
 /// Each attribute of a set with a pixel in the first or last row or column. No threshold is above.
@@ -190,10 +191,15 @@ impl Levels {
         self.components.iter().filter(|c| !c.own.is_empty())
     }
 
-    /// The attributes of all nodes but the root, the node at the least grey.
-    pub fn removable(&self, attribute: u32) -> impl Iterator<Item = u32> + '_ {
+    /// The attributes, all three, of all nodes but the root, the node at the least grey.
+    pub fn all_removable(&self) -> impl Iterator<Item = [u32; 3]> + '_ {
         let removable = self.nodes().filter(|c| c.level > self.least);
-        removable.map(move |c| c.attributes[attribute as usize - 1])
+        removable.map(|c| c.attributes)
+    }
+
+    pub fn removable(&self, attribute: u32) -> impl Iterator<Item = u32> + '_ {
+        self.all_removable()
+            .map(move |attributes| attributes[attribute as usize - 1])
     }
 
     /// The smallest node that strictly contains `node`.
@@ -231,22 +237,37 @@ impl Levels {
         record
     }
 
-    /// The greatest h for which the pixel's component at h has attribute t or more, the least grey
-    /// if there is none. Only greys that occur need be tried: between two of them the level set
-    /// is that of the brighter one.
-    pub fn opening(&self, attribute: u32, threshold: u32) -> Vec<u8> {
-        let enough = |c: &&Component| c.attributes[attribute as usize - 1] >= threshold;
+    /// The greatest h for which the pixel's component at h is enough, the least grey if there is
+    /// none. Only greys that occur need be tried: between two of them the level set is that of the
+    /// brighter one.
+    fn opened(&self, enough: impl Fn(&&Component) -> bool) -> Vec<u8> {
         let opened = |holding: &Vec<usize>| {
             let mut components = holding.iter().map(|c| &self.components[*c]);
-            components.find(enough).map_or(self.least, |c| c.level)
+            components.find(&enough).map_or(self.least, |c| c.level)
         };
         self.holding.iter().map(opened).collect()
+    }
+
+    /// Enough is attribute t or more.
+    pub fn opening(&self, attribute: u32, threshold: u32) -> Vec<u8> {
+        self.opened(|c| c.attributes[attribute as usize - 1] >= threshold)
+    }
+
+    /// Enough is what meets all three.
+    pub fn triple_opening(&self, triple: Triple) -> Vec<u8> {
+        self.opened(|c| parts::meets(c.attributes, triple))
     }
 
     /// The picture, and its opening at each step.
     pub fn openings(&self, picture: &Picture, attribute: u32, steps: &[u32]) -> Vec<Vec<u8>> {
         let mut openings = vec![picture.greys.clone()];
         openings.extend(steps.iter().map(|t| self.opening(attribute, *t)));
+        openings
+    }
+
+    pub fn triple_openings(&self, picture: &Picture, triples: &[Triple]) -> Vec<Vec<u8>> {
+        let mut openings = vec![picture.greys.clone()];
+        openings.extend(triples.iter().map(|triple| self.triple_opening(*triple)));
         openings
     }
 
@@ -259,6 +280,11 @@ impl Levels {
         gaps: &[u32],
     ) -> Vec<Maps> {
         joined_falls(&self.openings(picture, attribute, steps), gaps)
+    }
+
+    /// Those of a list of triples.
+    pub fn triple_maps(&self, picture: &Picture, triples: &[Triple], gaps: &[u32]) -> Vec<Maps> {
+        joined_falls(&self.triple_openings(picture, triples), gaps)
     }
 }
 

@@ -1,5 +1,5 @@
-// Every picture of a few small shapes with a few greys, by every attribute and neighbourhood and at
-// several gaps: as it stands, where most of it is frame, and set in a ring of either of the two
+// Every picture of a few small shapes with a few greys, by every attribute and neighbourhood, by
+// triples, and at several gaps: as it stands, where most of it is frame, and set in a ring of either of the two
 // darkest greys.
 
 use crate::calls::{check_build, check_gaps, check_open, ByDefinition, Call};
@@ -8,6 +8,7 @@ use crate::definition::Picture;
 use crate::pictures::ringed;
 use crate::random::Random;
 use crate::report::Report;
+use crate::triples::{node_sizes, triple, triple_list};
 
 /// Width, height, and how many greys.
 const SHAPES: [(usize, usize, usize); 11] = [
@@ -86,6 +87,12 @@ fn check(
             check_gaps(report, random, &call, &gaps, &truth, turn);
         }
     }
+    let sizes = node_sizes(&truth.levels);
+    let call = Call::triples(picture, neighbours, &[triple(random, &sizes)]);
+    check_open(report, random, &call, &truth);
+    let call = Call::triples(picture, neighbours, &triple_list(random, &sizes));
+    let gaps = [0, GAPS[number % GAPS.len()]];
+    check_gaps(report, random, &call, &gaps, &truth, number / GAPS.len());
 }
 
 pub fn run(report: &mut Report, seed: u64) {

@@ -12,11 +12,13 @@ use crate::causes::{MOST_THRESHOLD, NEIGHBOURHOODS};
 use crate::definition::{Picture, Record, CUT};
 use crate::fast::Forest;
 use crate::nest::{Nest, Rectangle};
+use crate::parts::Triple;
 use crate::pictures::{self, KINDS};
 use crate::random::Random;
 use crate::report::Report;
 use crate::runs::Maps;
 use crate::table::{rows, Table, AREA, HEIGHT, WIDTH};
+use crate::triples::{node_sizes, triple_list};
 use std::cell::OnceCell;
 
 /// The tree, the maps, and the opening at each step, in the programs here and in the library. Where
@@ -28,15 +30,13 @@ fn check(
     by_hand: &dyn Truth,
     programs: &[&dyn Truth],
 ) {
-    let attribute = call.numbers.attribute;
     let gaps = [0, random.pick(&[1, 2])];
-    let opening = |truth: &dyn Truth, t: u32| truth.opening(attribute, t);
-    let maps = |truth: &dyn Truth| truth.maps(attribute, &call.steps, &gaps);
+    let singles = call.singles();
     for program in programs {
-        let mut steps = call.steps.iter();
-        let same = program.record(attribute) == by_hand.record(attribute)
-            && maps(*program) == maps(by_hand)
-            && steps.all(|t| opening(*program, *t) == opening(by_hand, *t));
+        let opens_so = |single: &Call| single.opening(*program) == single.opening(by_hand);
+        let same = call.record(*program) == call.record(by_hand)
+            && call.maps(*program, &gaps) == call.maps(by_hand, &gaps)
+            && singles.iter().all(opens_so);
         let fault = (!same).then(|| String::from("programs here: not as worked out by hand"));
         report.check(fault, || shown("tree, maps and openings", call));
     }
@@ -47,11 +47,7 @@ fn check(
 }
 
 fn check_openings(report: &mut Report, random: &mut Random, call: &Call, by_hand: &dyn Truth) {
-    for t in &call.steps {
-        let single = Call {
-            steps: vec![*t],
-            ..call.clone()
-        };
+    for single in call.singles() {
         check_open(report, random, &single, by_hand);
     }
 }
@@ -101,6 +97,12 @@ impl Truth for AllFrame {
         let n = self.picture.pixels();
         vec![(vec![0; n], vec![0; n]); gaps.len()]
     }
+    fn triple_opening(&self, _: Triple) -> Vec<u8> {
+        self.picture.greys.clone()
+    }
+    fn triple_maps(&self, _: &[Triple], gaps: &[u32]) -> Vec<Maps> {
+        self.maps(AREA, &[], gaps)
+    }
     fn reversed(&self) -> &dyn Truth {
         let reversed = || AllFrame::of(&self.picture.reversed(), self.neighbours);
         &**self.reversed.get_or_init(|| Box::new(reversed()))
@@ -126,6 +128,10 @@ fn check_all_frame(report: &mut Report, random: &mut Random, picture: &Picture) 
             let call = Call::good(picture, attribute, neighbours, steps);
             check(report, random, &call, &by_hand, &[&plain, &forest]);
         }
+        let n = picture.pixels() as u32;
+        let triples = triple_list(random, &[[1, 1, 1], [n, n, n], [CUT; 3]]);
+        let call = Call::triples(picture, neighbours, &triples);
+        check(report, random, &call, &by_hand, &[&plain, &forest]);
     }
 }
 
@@ -181,6 +187,9 @@ fn check_nest(report: &mut Report, random: &mut Random, nest: &Nest) {
             let call = Call::good(picture, attribute, neighbours, nest.steps(attribute));
             check(report, random, &call, nest, &[&plain, &forest]);
         }
+        let triples = triple_list(random, &nest.attributes);
+        let call = Call::triples(picture, neighbours, &triples);
+        check(report, random, &call, nest, &[&plain, &forest]);
     }
 }
 
@@ -206,7 +215,8 @@ const LARGEST: [(usize, usize, [u32; 3]); 3] = [
 ];
 
 /// A floc that fills all but the frame, by each attribute: maps, and the openings at its exact size
-/// and one above; the tree by one of them in turn.
+/// and one above; the tree by one of them in turn. By triples: at its size, and one above in one
+/// part.
 fn all_but_frame(report: &mut Report, random: &mut Random, nest: &Nest, turn: usize) {
     let neighbours = NEIGHBOURHOODS[turn % 2];
     for attribute in 1..=3 {
@@ -223,6 +233,16 @@ fn all_but_frame(report: &mut Report, random: &mut Random, nest: &Nest, turn: us
             check(report, random, &call, nest, &[&forest]);
         } else {
             check_openings(report, random, &call, nest);
+        }
+    }
+    let size = nest.attributes[1];
+    for part in 0..3 {
+        let mut above = size;
+        above[part] += 1;
+        let call = Call::triples(&nest.picture, neighbours, &[size, above]);
+        check_openings(report, random, &call, nest);
+        if part == turn {
+            check_gaps(report, random, &call, &[0], nest, 2 * turn);
         }
     }
 }
@@ -253,6 +273,8 @@ fn largest(report: &mut Report, random: &mut Random) {
             let (attribute, neighbours) = (1 + side as u32 % 3, NEIGHBOURHOODS[side % 2]);
             let call = Call::good(&nest.picture, attribute, neighbours, vec![MOST_THRESHOLD]);
             check_gaps(report, random, &call, &[0], &nest, 0);
+            let call = Call::triples(&nest.picture, neighbours, &[[MOST_THRESHOLD; 3]]);
+            check_open(report, random, &call, &nest);
         }
     }
 }
@@ -414,10 +436,11 @@ fn maps_fault(call: &Call, (residue, index): &Maps) -> Option<String> {
     ))
 }
 
-/// Every pixel of the frame keeps its grey, and the opening at 1,048,577 is the reconstruction.
+/// Every pixel of the frame keeps its grey, and the opening at 1,048,577, in one part or in several,
+/// is the reconstruction.
 fn opening_fault(call: &Call, picture: &Picture, opened: &[u8]) -> Option<String> {
     let stays = frame(call).iter().all(|p| opened[*p] == picture.greys[*p]);
-    let last = call.steps == [MOST_THRESHOLD];
+    let last = call.steps.contains(&MOST_THRESHOLD);
     let faults = [
         (!stays).then_some("another grey in the frame"),
         (last && opened != from_frame(call, picture)).then_some("no reconstruction from the frame"),
@@ -453,6 +476,29 @@ fn check_laws(report: &mut Report, random: &mut Random, truth: &ByDefinition) {
         for value in levels.removable(attribute) {
             report.met("node", u64::from(value == CUT));
         }
+    }
+    check_triples(report, random, truth);
+}
+
+fn check_triples(report: &mut Report, random: &mut Random, truth: &ByDefinition) {
+    let ByDefinition {
+        picture, levels, ..
+    } = truth;
+    let mut triples = triple_list(random, &node_sizes(levels));
+    let call = Call::triples(picture, levels.neighbours, &triples);
+    let gaps = [0, any_gap(random)];
+    let turn = random.below(4);
+    for maps in check_gaps(report, random, &call, &gaps, truth, turn) {
+        report.check(maps_fault(&call, &maps), || shown("maps", &call));
+    }
+    triples.truncate(1);
+    let mut most = triples[0];
+    most[random.below(3)] = MOST_THRESHOLD;
+    for triple in [triples[0], most] {
+        let single = Call::triples(picture, levels.neighbours, &[triple]);
+        let opened = check_open(report, random, &single, truth);
+        let fault = opened.and_then(|greys| opening_fault(&single, picture, &greys));
+        report.check(fault, || shown("opening", &single));
     }
 }
 

@@ -10,15 +10,17 @@ use crate::calls::{any_gap, any_good, any_named, attribute_values, check_gaps, c
 use crate::calls::{shown, step_list, ByDefinition, Call, Truth};
 use crate::causes::{refusal, MOST_GAP, MOST_STEPS, MOST_THRESHOLD, NEIGHBOURHOODS, ORDER};
 use crate::damage;
-use crate::definition::{largest_falls, Levels, Picture, Record, CUT};
+use crate::definition::{largest_falls, Picture, Record, CUT};
 use crate::fast::Forest;
 use crate::interface::MapCall;
 use crate::large;
+use crate::parts::Triple;
 use crate::pictures::{self, in_ring};
 use crate::random::Random;
 use crate::report::Report;
 use crate::runs::{runs, Maps};
 use crate::table::{rows, Table, AREA, HEIGHT, WIDTH};
+use crate::triples::{node_sizes, triple_list};
 
 /// The scope's P in its ring: before the floc of grey 20 falls by 10, the two brighter ones in it
 /// fall by 10 and by 30.
@@ -170,7 +172,23 @@ impl Hill {
         maps
     }
 
-    /// In the programs here and in the library, by this attribute and under this neighbourhood.
+    /// Triples with the same residues: at each step the part of area, that of the extent along the
+    /// line, or both rise to the threshold; across the line one pixel is enough.
+    fn triples(random: &mut Random, attribute: u32, steps: &[u32]) -> Vec<Triple> {
+        let (along, across) = if attribute == HEIGHT { (1, 2) } else { (2, 1) };
+        let mut triple = [0; 3];
+        triple[across] = random.below(2) as u32;
+        let rising = |t: &u32| {
+            for part in random.pick(&[&[0][..], &[along], &[0, along]]) {
+                triple[*part] = *t;
+            }
+            triple
+        };
+        steps.iter().map(rising).collect()
+    }
+
+    /// In the programs here and in the library, by this attribute and by triples, under this
+    /// neighbourhood.
     fn check(
         &self,
         report: &mut Report,
@@ -180,16 +198,21 @@ impl Hill {
         gaps: &[u32],
     ) {
         let picture = self.picture(attribute);
-        let levels = Levels::of(&picture, neighbours);
+        let plain = ByDefinition::of(&picture, neighbours);
         let forest = Forest::of(&picture, neighbours);
         let due = self.maps(attribute, steps, gaps);
-        let same = levels.maps(&picture, attribute, steps, gaps) == due
-            && forest.maps(attribute, steps, gaps) == due;
-        let call = Call::good(&picture, attribute, neighbours, steps.to_vec());
-        let fault = (!same).then(|| format!("programs here: not as chosen, gaps {gaps:?}"));
-        report.check(fault, || shown("hill", &call));
-        let turn = random.below(4);
-        check_gaps(report, random, &call, gaps, &forest, turn);
+        let triples = Hill::triples(random, attribute, steps);
+        let calls = [
+            Call::good(&picture, attribute, neighbours, steps.to_vec()),
+            Call::triples(&picture, neighbours, &triples),
+        ];
+        for call in calls {
+            let same = call.maps(&plain, gaps) == due && call.maps(&forest, gaps) == due;
+            let fault = (!same).then(|| format!("programs here: not as chosen, gaps {gaps:?}"));
+            report.check(fault, || shown("hill", &call));
+            let turn = random.below(4);
+            check_gaps(report, random, &call, gaps, &forest, turn);
+        }
     }
 }
 
@@ -409,6 +432,12 @@ fn check_laws(report: &mut Report, random: &mut Random, truth: &ByDefinition, at
     let openings = levels.openings(picture, attribute, &call.steps);
     let fault = laws_fault(report, &openings, &gaps, &maps);
     report.check(fault, || shown("laws", &call));
+    let triples = triple_list(random, &node_sizes(levels));
+    let call = Call::triples(picture, levels.neighbours, &triples);
+    let maps = check_gaps(report, random, &call, &gaps, truth, turn + 1);
+    let openings = levels.triple_openings(picture, &triples);
+    let fault = laws_fault(report, &openings, &gaps, &maps);
+    report.check(fault, || shown("laws", &call));
 }
 
 /// Source document 001, equation 6, from the root on: a node's sum is its level less its parent's
@@ -498,9 +527,15 @@ fn every_gap(report: &mut Report, random: &mut Random) {
             for turn in 0..4 {
                 check_gaps(report, random, &call, &accepted, &forest, turn);
             }
+            let triples = Hill::triples(random, attribute, &steps);
+            let mut by_triples = Call::triples(&picture, neighbours, &triples);
+            for turn in [0, 1] {
+                check_gaps(report, random, &by_triples, &accepted, &forest, turn);
+            }
             for gap in MOST_GAP + 1..2 * MOST_GAP + 9 {
-                call.gap = gap;
+                (call.gap, by_triples.gap) = (gap, gap);
                 check_maps(report, random, &call, &forest);
+                check_maps(report, random, &by_triples, &forest);
             }
         }
     }
@@ -509,10 +544,12 @@ fn every_gap(report: &mut Report, random: &mut Random) {
 /// A call that is refused, so that nothing is asked of the picture's tree.
 fn check_refused(report: &mut Report, random: &mut Random, picture: &Picture, call: &Call) {
     let forest = Forest::of(picture, 4);
-    check_maps(report, random, call, &forest);
-    let cause =
-        refusal(&call.named_map(MapCall::Light, &call.steps)).expect_err("the gap is wrong");
-    report.met("wrong gap", u64::from(cause));
+    for call in [call, &call.by_triples()] {
+        check_maps(report, random, call, &forest);
+        let named = call.named_map(MapCall::Light, &call.steps);
+        let cause = refusal(&named).expect_err("the gap is wrong");
+        report.met("wrong gap", u64::from(cause));
+    }
 }
 
 /// Wrong gaps, each alone, which is beside 19, and beside each other cause.

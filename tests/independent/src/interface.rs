@@ -1,5 +1,7 @@
-// The eight functions of libteldruf.a as a host calls them. Each run is lent whole, as a slice; so
+// The twelve functions of libteldruf.a as a host calls them. Each run is lent whole, as a slice; so
 // runs lent in one call are apart.
+
+use crate::parts::Triple;
 
 extern "C" {
     fn teldruf_read_pgm(file: *const u8, file_len: usize, head: *mut u32) -> u64;
@@ -88,6 +90,70 @@ extern "C" {
         contrast: *mut i16,
         contrast_len: usize,
     ) -> u64;
+    fn teldruf_open_triple(
+        picture: *const u8,
+        picture_len: usize,
+        width: u32,
+        height: u32,
+        neighbours: u32,
+        area: u32,
+        rows: u32,
+        columns: u32,
+        workspace: *mut u32,
+        workspace_len: usize,
+        output: *mut u8,
+        output_len: usize,
+    ) -> u64;
+    fn teldruf_map_triples(
+        picture: *const u8,
+        picture_len: usize,
+        width: u32,
+        height: u32,
+        neighbours: u32,
+        steps: *const u32,
+        steps_len: usize,
+        gap: u32,
+        workspace: *mut u32,
+        workspace_len: usize,
+        residue: *mut u8,
+        residue_len: usize,
+        index: *mut u16,
+        index_len: usize,
+    ) -> u64;
+    fn teldruf_dark_map_triples(
+        picture: *const u8,
+        picture_len: usize,
+        width: u32,
+        height: u32,
+        neighbours: u32,
+        steps: *const u32,
+        steps_len: usize,
+        gap: u32,
+        workspace: *mut u32,
+        workspace_len: usize,
+        residue: *mut u8,
+        residue_len: usize,
+        index: *mut u16,
+        index_len: usize,
+    ) -> u64;
+    fn teldruf_combined_map_triples(
+        picture: *const u8,
+        picture_len: usize,
+        width: u32,
+        height: u32,
+        neighbours: u32,
+        steps: *const u32,
+        steps_len: usize,
+        gap: u32,
+        workspace: *mut u32,
+        workspace_len: usize,
+        residue: *mut u8,
+        residue_len: usize,
+        index: *mut u16,
+        index_len: usize,
+        contrast: *mut i16,
+        contrast_len: usize,
+    ) -> u64;
     fn teldruf_view_row(
         light: *const u8,
         light_len: usize,
@@ -98,6 +164,14 @@ extern "C" {
         row: u32,
         side: u32,
     ) -> u64;
+}
+
+/// What a call is given as steps: thresholds of the attribute that it names, or triples, with which
+/// it names none.
+#[derive(Clone, Copy, Debug, PartialEq)]
+pub enum Given {
+    Thresholds,
+    Triples,
 }
 
 /// Width, height, attribute and number of neighbours as a call names them.
@@ -167,6 +241,32 @@ pub fn open(
     }
 }
 
+/// The numbers but the attribute are named.
+pub fn open_triple(
+    picture: &[u8],
+    numbers: Numbers,
+    [area, rows, columns]: Triple,
+    workspace: &mut [u32],
+    output: &mut [u8],
+) -> u64 {
+    unsafe {
+        teldruf_open_triple(
+            picture.as_ptr(),
+            picture.len(),
+            numbers.width,
+            numbers.height,
+            numbers.neighbours,
+            area,
+            rows,
+            columns,
+            workspace.as_mut_ptr(),
+            workspace.len(),
+            output.as_mut_ptr(),
+            output.len(),
+        )
+    }
+}
+
 /// The three map calls: of the picture, of 255 less each grey, and of both.
 #[derive(Clone, Copy, Debug, PartialEq)]
 pub enum MapCall {
@@ -178,11 +278,14 @@ pub enum MapCall {
 pub const MAP_CALLS: [MapCall; 3] = [MapCall::Light, MapCall::Dark, MapCall::Combined];
 
 impl MapCall {
-    pub fn name(self) -> &'static str {
-        match self {
-            MapCall::Light => "map",
-            MapCall::Dark => "dark map",
-            MapCall::Combined => "combined map",
+    pub fn name(self, given: Given) -> &'static str {
+        match (self, given) {
+            (MapCall::Light, Given::Thresholds) => "map",
+            (MapCall::Dark, Given::Thresholds) => "dark map",
+            (MapCall::Combined, Given::Thresholds) => "combined map",
+            (MapCall::Light, Given::Triples) => "map triples",
+            (MapCall::Dark, Given::Triples) => "dark map triples",
+            (MapCall::Combined, Given::Triples) => "combined map triples",
         }
     }
 
@@ -199,6 +302,8 @@ impl MapCall {
 pub struct Mapping<'a> {
     pub picture: &'a [u8],
     pub numbers: Numbers,
+    pub given: Given,
+    /// One word to a threshold, three to a triple.
     pub steps: &'a [u32],
     pub gap: u32,
     pub workspace: &'a mut [u32],
@@ -208,16 +313,16 @@ pub struct Mapping<'a> {
     pub contrast: &'a mut [i16],
 }
 
-/// The arguments of each map call, in their order.
+/// The arguments of each map call, in their order; in brackets the attribute, if one is named.
 macro_rules! made {
-    ($call:ident, $lent:expr $(, $further:expr)*) => {
+    ($call:ident, $lent:expr, [$($attribute:expr)?] $(, $further:expr)*) => {
         unsafe {
             $call(
                 $lent.picture.as_ptr(),
                 $lent.picture.len(),
                 $lent.numbers.width,
                 $lent.numbers.height,
-                $lent.numbers.attribute,
+                $($attribute,)?
                 $lent.numbers.neighbours,
                 $lent.steps.as_ptr(),
                 $lent.steps.len(),
@@ -235,12 +340,18 @@ macro_rules! made {
 }
 
 pub fn map(call: MapCall, lent: Mapping) -> u64 {
-    match call {
-        MapCall::Light => made!(teldruf_map, lent),
-        MapCall::Dark => made!(teldruf_dark_map, lent),
-        MapCall::Combined => {
-            let (contrast, entries) = (lent.contrast.as_mut_ptr(), lent.contrast.len());
-            made!(teldruf_combined_map, lent, contrast, entries)
+    let attribute = lent.numbers.attribute;
+    let (contrast, entries) = (lent.contrast.as_mut_ptr(), lent.contrast.len());
+    match (call, lent.given) {
+        (MapCall::Light, Given::Thresholds) => made!(teldruf_map, lent, [attribute]),
+        (MapCall::Dark, Given::Thresholds) => made!(teldruf_dark_map, lent, [attribute]),
+        (MapCall::Combined, Given::Thresholds) => {
+            made!(teldruf_combined_map, lent, [attribute], contrast, entries)
+        }
+        (MapCall::Light, Given::Triples) => made!(teldruf_map_triples, lent, []),
+        (MapCall::Dark, Given::Triples) => made!(teldruf_dark_map_triples, lent, []),
+        (MapCall::Combined, Given::Triples) => {
+            made!(teldruf_combined_map_triples, lent, [], contrast, entries)
         }
     }
 }

@@ -1,15 +1,18 @@
 // A few large pictures, at the bounds of the sides and of n, against the fast implementation: as
 // they stand, and set in a ring where otherwise the frame would cut all that is in them. Each is
 // mapped at gap 0, and under one of the neighbourhoods at another gap too; what is dark in 255 less
-// each grey is compared at one of the two.
+// each grey is compared at one of the two. By triples each is opened under both neighbourhoods, and
+// mapped under one of them.
 
 use crate::calls::{check_build, check_gaps, check_open, Call};
 use crate::causes::NEIGHBOURHOODS;
 use crate::definition::Picture;
 use crate::fast::Forest;
+use crate::parts::Triple;
 use crate::pictures::{in_ring, KINDS};
 use crate::random::Random;
 use crate::report::Report;
+use crate::triples::walk;
 
 const SIZES: [(&str, usize, usize); 11] = [
     ("floc", 1024, 1024),
@@ -63,6 +66,19 @@ fn steps(random: &mut Random) -> Vec<u32> {
     steps
 }
 
+/// 256 or a few, each of whose parts grows in turn or at random.
+fn triples(random: &mut Random) -> Vec<Triple> {
+    if random.chance(1, 2) {
+        return walk(random, 256);
+    }
+    let mut triple = [0; 3];
+    let in_turn = |k: usize| {
+        triple[k % 3] += 1 + triple[k % 3] / 2;
+        triple
+    };
+    (0..random.between(9, 30)).map(in_turn).collect()
+}
+
 /// Under each neighbourhood build and opening by each attribute, and the map by one of them in turn.
 fn check(report: &mut Report, random: &mut Random, picture: &Picture, case: usize) {
     for (turn, neighbours) in NEIGHBOURHOODS.into_iter().enumerate() {
@@ -81,6 +97,14 @@ fn check(report: &mut Report, random: &mut Random, picture: &Picture, case: usiz
             let single = random.pick(&[2, 5, 12, 60, 900, 1024, 1_048_576, 1_048_577]);
             let call = Call::good(picture, attribute, neighbours, vec![single]);
             check_open(report, random, &call, &forest);
+        }
+        let triple = [0, 1, 2].map(|_| random.pick(&[0, 1, 2, 3, 5, 12, 60, 900]));
+        let single = Call::triples(picture, neighbours, &[triple.map(|part| part + 1)]);
+        check_open(report, random, &single, &forest);
+        if turn == case % 2 {
+            let call = Call::triples(picture, neighbours, &triples(random));
+            let gap = random.pick(&[0, GAPS[case % GAPS.len()]]);
+            check_gaps(report, random, &call, &[gap], &forest, 2 * (case / 2));
         }
     }
 }

@@ -1,12 +1,13 @@
 // The list of nodes, in the words of its request: after parents and attributes comes a part with
 // the representatives by rising level, lower position first within a level, and zeros after the
 // last; scratch follows, zero on return; the root always comes first and every parent before its
-// children. The five calls are made in workspaces that hold all sorts of things. What they leave
-// is read entry by entry and is compared with no other list, save on pictures that are made so that
+// children. The calls on a picture, those given triples too, are made in workspaces that hold all
+// sorts of things. What they leave is read entry by entry and is compared with no other list, save on pictures that are made so that
 // theirs is known. The programs here are held to the same words. Then workspaces that are not 7n
 // words.
 
-use crate::calls::{any_gap, first_fault, shown, step_list, ByDefinition, Call, CHECKS};
+use crate::calls::{any_gap, first_fault, made_open, shown, step_list};
+use crate::calls::{ByDefinition, Call, CHECKS};
 use crate::causes::{NEIGHBOURHOODS, ORDER, WORDS_A_PIXEL};
 use crate::damage;
 use crate::dark;
@@ -20,6 +21,7 @@ use crate::nest::{Nest, Rectangle};
 use crate::pictures::{self, by_place};
 use crate::random::Random;
 use crate::report::{answer_fault, Report};
+use crate::table::AREA;
 use std::ops::Range;
 
 /// A workspace as a call left it, in its parts, and the picture of the call.
@@ -209,13 +211,14 @@ fn made(random: &mut Random, map: Option<MapCall>, call: &Call, workspace: &mut 
     let mut residue = Lent::dirty(random, call.outputs[0]);
     let mut index = Lent::dirty(random, call.outputs[1]);
     let mut contrast = Lent::dirty(random, call.outputs[2]);
-    let (picture, numbers, residue) = (&call.picture, call.numbers, residue.now_mut());
+    let (picture, residue) = (&call.picture, residue.now_mut());
     let Some(which) = map else {
-        return interface::open(picture, numbers, call.steps[0], workspace, residue);
+        return made_open(call, picture, workspace, residue);
     };
     let mapping = Mapping {
         picture,
-        numbers,
+        numbers: call.numbers,
+        given: call.given,
         steps: &call.steps,
         gap: call.gap,
         workspace,
@@ -227,8 +230,9 @@ fn made(random: &mut Random, map: Option<MapCall>, call: &Call, workspace: &mut 
 }
 
 /// What building leaves is as the request has it, and opening and maps leave the very same words,
-/// maps at any gap; so does the dark or the combined call on 255 less each grey. Each workspace
-/// holds something else before. Hands back what building left.
+/// maps at any gap; so does the dark or the combined call on 255 less each grey. By area the same
+/// calls given triples do too. Each workspace holds something else before. Hands back what building
+/// left.
 fn check(report: &mut Report, random: &mut Random, call: &Call, turn: usize) -> Vec<u32> {
     let case = |name: &str, before: Before| format!("list after {before:?}, {}", shown(name, call));
     let (before, mut built) = lent(random, call, turn);
@@ -239,19 +243,26 @@ fn check(report: &mut Report, random: &mut Random, call: &Call, turn: usize) -> 
     ]);
     report.check(fault, || case("build", before));
     let dark = random.pick(&[MapCall::Dark, MapCall::Combined]);
-    let further = [
-        (None, call),
-        (Some(MapCall::Light), call),
-        (Some(dark), &call.reversed()),
+    let mut further = vec![
+        (None, call.clone()),
+        (Some(MapCall::Light), call.clone()),
+        (Some(dark), call.reversed()),
     ];
-    for (turn, (map, call)) in (turn + 1..).zip(further) {
+    if call.numbers.attribute == AREA {
+        let triples = call.by_triples();
+        further.push((Some(dark), triples.reversed()));
+        further.push((Some(MapCall::Light), triples.clone()));
+        further.push((None, triples));
+    }
+    for (turn, (map, call)) in (turn + 1..).zip(&further) {
         let (before, mut workspace) = lent(random, call, turn);
-        let answer = made(random, map, call, workspace.now_mut());
+        let answer = made(random, *map, call, workspace.now_mut());
         let fault = first_fault([
             answer_fault(answer, 0),
             workspace.fault("workspace", Some(built.now())),
         ]);
-        report.check(fault, || case(map.map_or("open", MapCall::name), before));
+        let name = map.map_or(call.open_name(), |which| call.map_name(which));
+        report.check(fault, || case(name, before));
     }
     built.now().to_vec()
 }

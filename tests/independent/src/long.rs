@@ -1,11 +1,11 @@
 // Runs that are too long by 2^32 entries and such. A call that looked at the low 32 bits of a
 // length, or of its bytes, would find it right.
 
-use crate::calls::{any_good, first_fault, shown, Call};
+use crate::calls::{any_good, first_fault, made_open, shown, Call};
 use crate::causes::{refusal, view_refusal, Named, ORDER};
 use crate::damage;
 use crate::files::{damage_read, damage_write, good_file, good_writing, sets, Writing};
-use crate::interface::{self, MapCall, Mapping, View, MAP_CALLS};
+use crate::interface::{self, Given, MapCall, Mapping, View, MAP_CALLS};
 use crate::lent::Lent;
 use crate::pgm;
 use crate::random::Random;
@@ -69,35 +69,36 @@ fn check_open(report: &mut Report, random: &mut Random, call: &Call, surplus: [u
     let picture = Vast::holding(random, &call.picture, surplus[0]);
     let mut workspace = Vast::dirty(random, call.workspace, surplus[1]);
     let mut output = Vast::dirty(random, call.outputs[0], surplus[2]);
-    let answer = interface::open(
-        picture.now(),
-        call.numbers,
-        call.steps[0],
-        workspace.now_mut(),
-        output.now_mut(),
-    );
+    let answer = made_open(call, picture.now(), workspace.now_mut(), output.now_mut());
     let named = Named {
         picture: picture.now().len(),
         workspace: workspace.now().len(),
         outputs: &[output.now().len()],
-        ..call.named(Some(&call.steps[..1]), 1)
+        ..call.named_open()
+    };
+    let name = match call.given {
+        Given::Thresholds => "long open",
+        Given::Triples => "long open triple",
     };
     let fault = first_fault([
-        answer_fault(answer, due(report, "long open", &named)),
+        answer_fault(answer, due(report, name, &named)),
         picture.fault("picture", &[]),
         workspace.fault("workspace", &[]),
         output.fault("output", &[]),
     ]);
     report.check(fault, || {
-        format!("surplus {surplus:?}, {}", shown("open", call))
+        format!("surplus {surplus:?}, {}", shown(call.open_name(), call))
     });
 }
 
-fn name(which: MapCall) -> &'static str {
-    match which {
-        MapCall::Light => "long map",
-        MapCall::Dark => "long dark map",
-        MapCall::Combined => "long combined map",
+fn name(which: MapCall, given: Given) -> &'static str {
+    match (which, given) {
+        (MapCall::Light, Given::Thresholds) => "long map",
+        (MapCall::Dark, Given::Thresholds) => "long dark map",
+        (MapCall::Combined, Given::Thresholds) => "long combined map",
+        (MapCall::Light, Given::Triples) => "long map triples",
+        (MapCall::Dark, Given::Triples) => "long dark map triples",
+        (MapCall::Combined, Given::Triples) => "long combined map triples",
     }
 }
 
@@ -122,6 +123,7 @@ fn check_map<const RUNS: usize>(
     let mapping = Mapping {
         picture: picture.now(),
         numbers: call.numbers,
+        given: call.given,
         steps: steps.now(),
         gap: call.gap,
         workspace: workspace.now_mut(),
@@ -138,7 +140,7 @@ fn check_map<const RUNS: usize>(
         ..call.named_map(which, steps.now())
     };
     let fault = first_fault([
-        answer_fault(answer, due(report, name(which), &named)),
+        answer_fault(answer, due(report, name(which, call.given), &named)),
         picture.fault("picture", &[]),
         steps.fault("steps", &[]),
         workspace.fault("workspace", &[]),
@@ -147,7 +149,7 @@ fn check_map<const RUNS: usize>(
         contrast.fault("contrast", &[]),
     ]);
     report.check(fault, || {
-        format!("surplus {surplus:?}, {}", shown(which.name(), call))
+        format!("surplus {surplus:?}, {}", shown(call.map_name(which), call))
     });
 }
 
@@ -169,6 +171,32 @@ fn on_pictures<const RUNS: usize>(
             }
             check(report, random, &call, surplus);
         }
+    }
+}
+
+/// The same with calls given triples. A list that is too long by three times 2^32 words has whole
+/// triples.
+fn on_triples(report: &mut Report, random: &mut Random) {
+    let without_attribute: Vec<u32> = ORDER.into_iter().filter(|cause| *cause != 3).collect();
+    let open: Check<3> =
+        |report, random, call, more| check_open(report, random, &call.by_triples(), more);
+    let light: Check<5> = |report, random, call, more| {
+        check_map(report, random, MapCall::Light, &call.by_triples(), more)
+    };
+    let dark: Check<5> = |report, random, call, more| {
+        check_map(report, random, MapCall::Dark, &call.by_triples(), more)
+    };
+    let combined: Check<6> = |report, random, call, more| {
+        check_map(report, random, MapCall::Combined, &call.by_triples(), more)
+    };
+    on_pictures(report, random, open, &without_attribute, few_choices());
+    on_pictures(report, random, light, &without_attribute, few_choices());
+    on_pictures(report, random, dark, &without_attribute, few_choices());
+    on_pictures(report, random, combined, &without_attribute, few_choices());
+    report.check_all_met("long open triple", &[1, 2, 17, 4, 5, 6]);
+    for which in MAP_CALLS {
+        let name = name(which, Given::Triples);
+        report.check_all_met(name, &[1, 2, 17, 4, 19, 5, 6]);
     }
 }
 
@@ -286,6 +314,7 @@ pub fn run(report: &mut Report, seed: u64) {
     on_pictures(report, &mut random, light, &ORDER, choices());
     on_pictures(report, &mut random, dark, &ORDER, few_choices());
     on_pictures(report, &mut random, combined, &ORDER, few_choices());
+    on_triples(report, &mut random);
     on_viewers(report, &mut random);
     on_files(report, &mut random);
     on_long_comment(report, &mut random);
@@ -293,7 +322,8 @@ pub fn run(report: &mut Report, seed: u64) {
     report.check_all_met("long build", &[1, 2, 3, 17, 5]);
     report.check_all_met("long open", &[1, 2, 3, 17, 4, 5, 6]);
     for which in MAP_CALLS {
-        report.check_all_met(name(which), &[1, 2, 3, 17, 4, 19, 5, 6]);
+        let name = name(which, Given::Thresholds);
+        report.check_all_met(name, &[1, 2, 3, 17, 4, 19, 5, 6]);
     }
     report.check_all_met("long view", &[1, 6]);
     report.check_all_met("long read", &[0, 8, 9, 10, 1, 11]);

@@ -23,8 +23,10 @@ mod large;
 mod lent;
 mod listing;
 mod long;
+mod mixed;
 mod neighbours;
 mod nest;
+mod parts;
 mod pgm;
 mod pictures;
 mod program;
@@ -34,6 +36,7 @@ mod runs;
 mod sides;
 mod steps;
 mod table;
+mod triples;
 mod vast;
 
 use report::Report;
@@ -46,13 +49,14 @@ const FEWEST_CASES: usize = 1000;
 
 type Suite = fn(&mut Report, &Options);
 
-const SUITES: [(&str, Suite); 13] = [
+const SUITES: [(&str, Suite); 14] = [
     ("table", |r, o| table::run(r, o.seed)),
     ("neighbours", |r, o| neighbours::run(r, o.seed)),
     ("frame", |r, o| frame::run(r, o.seed, o.cases / 10)),
     ("listing", |r, o| listing::run(r, o.seed, o.cases / 10)),
     ("gaps", |r, o| gaps::run(r, o.seed, o.cases / 10)),
     ("sides", |r, o| sides::run(r, o.seed, o.cases / 10)),
+    ("triples", |r, o| triples::run(r, o.seed, o.cases / 10)),
     ("every", |r, o| every::run(r, o.seed)),
     ("calls", |r, o| calls::run(r, o.seed, o.cases)),
     ("chains", |r, o| chains::run(r, o.seed, o.cases / 4)),

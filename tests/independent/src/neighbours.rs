@@ -122,6 +122,31 @@ impl Pair {
             check_open(report, random, &call, &truth);
             check_maps(report, random, &call, &truth);
         }
+        self.check_triples(report, random, &truth);
+    }
+
+    /// Two of any part are met by what meets two of each of them.
+    fn check_triples(&self, report: &mut Report, random: &mut Random, truth: &ByDefinition) {
+        let number = truth.levels.neighbours;
+        let parts = random.between(1, 7);
+        let named = |attribute: &u32| parts >> (attribute - 1) & 1 == 1;
+        let mut due = self.picture.greys.clone();
+        let mut triple = [random.below(2) as u32; 3];
+        for attribute in (1..=3).filter(named) {
+            triple[attribute as usize - 1] = 2;
+            let opened = self.opened_at_2(attribute, number);
+            for (least, grey) in due.iter_mut().zip(opened) {
+                *least = grey.min(*least);
+            }
+        }
+        let same = truth.triple_opening(triple) == due;
+        let fault = (!same).then(|| String::from("not opened as two pixels are"));
+        report.check(fault, || {
+            format!("definition here: {:?} by {triple:?}", self.picture)
+        });
+        let call = Call::triples(&self.picture, number, &[triple]);
+        check_open(report, random, &call, truth);
+        check_maps(report, random, &call, truth);
     }
 }
 

@@ -5,6 +5,7 @@ use crate::calls::Truth;
 use crate::causes::{MOST_THRESHOLD, NEIGHBOURHOODS};
 use crate::definition::{joined_falls, Picture, Record, CUT};
 use crate::fast::Forest;
+use crate::parts::{self, Triple};
 use crate::pictures::by_place;
 use crate::runs::Maps;
 use std::cell::OnceCell;
@@ -102,6 +103,15 @@ impl Nest {
         }
     }
 
+    /// What is left if these of the rectangles stay, the ground among them.
+    fn opened(&self, stays: impl Fn([u32; 3]) -> bool) -> Vec<u8> {
+        let stays = |k: &usize| stays(self.attributes[*k]);
+        let left: Vec<u8> = (0..self.attributes.len())
+            .map(|k| GREYS[(0..=k).rfind(stays).expect("the ground stays")])
+            .collect();
+        self.depth.iter().map(|k| left[usize::from(*k)]).collect()
+    }
+
     /// At each attribute and one above it, and 1.
     pub fn steps(&self, attribute: u32) -> Vec<u32> {
         let values = self.attributes.iter().map(|a| a[attribute as usize - 1]);
@@ -132,15 +142,19 @@ impl Truth for Nest {
         record
     }
     fn opening(&self, attribute: u32, threshold: u32) -> Vec<u8> {
-        let stays = |k: &usize| self.attributes[*k][attribute as usize - 1] >= threshold;
-        let left: Vec<u8> = (0..self.attributes.len())
-            .map(|k| GREYS[(0..=k).rfind(stays).expect("the ground stays")])
-            .collect();
-        self.depth.iter().map(|k| left[usize::from(*k)]).collect()
+        self.opened(|attributes| attributes[attribute as usize - 1] >= threshold)
     }
     fn maps(&self, attribute: u32, steps: &[u32], gaps: &[u32]) -> Vec<Maps> {
         let mut openings = vec![self.picture.greys.clone()];
         openings.extend(steps.iter().map(|t| self.opening(attribute, *t)));
+        joined_falls(&openings, gaps)
+    }
+    fn triple_opening(&self, triple: Triple) -> Vec<u8> {
+        self.opened(|attributes| parts::meets(attributes, triple))
+    }
+    fn triple_maps(&self, triples: &[Triple], gaps: &[u32]) -> Vec<Maps> {
+        let mut openings = vec![self.picture.greys.clone()];
+        openings.extend(triples.iter().map(|triple| self.triple_opening(*triple)));
         joined_falls(&openings, gaps)
     }
     fn reversed(&self) -> &dyn Truth {

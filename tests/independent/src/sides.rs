@@ -21,6 +21,7 @@ use crate::random::Random;
 use crate::report::{answer_fault, refused, Report};
 use crate::runs::Maps;
 use crate::table::{rows, Table, AREA, HEIGHT, WIDTH};
+use crate::triples::{node_sizes, triple_list};
 use std::cmp::Ordering;
 
 /// Residues and indices.
@@ -215,6 +216,7 @@ fn one_grey(report: &mut Report, random: &mut Random) {
             let fault = (left != Some(due)).then(|| String::from("not all 0 on the root alone"));
             report.check(fault, || shown("one grey", &call));
             check_maps(report, random, &call, &truth);
+            check_maps(report, random, &call.by_triples(), &truth);
         }
     }
 }
@@ -392,8 +394,25 @@ fn check_shape(report: &mut Report, random: &mut Random, (width, height): (usize
                 ..Call::good(&picture, attribute, neighbours, steps)
             };
             check_laws(report, random, &call, [&truths[0], &truths[1]]);
+            if number % 2 == 0 {
+                check_triples(report, random, [&truths[0], &truths[1]]);
+            }
         }
     }
+}
+
+/// By triples near the sizes of both sides.
+fn check_triples(report: &mut Report, random: &mut Random, truths: [&ByDefinition; 2]) {
+    let mut sizes = node_sizes(&truths[0].levels);
+    sizes.extend(node_sizes(&truths[1].levels));
+    let ByDefinition {
+        picture, levels, ..
+    } = truths[0];
+    let call = Call {
+        gap: any_gap(random),
+        ..Call::triples(picture, levels.neighbours, &triple_list(random, &sizes))
+    };
+    check_laws(report, random, &call, truths);
 }
 
 /// Rings within each other, each lighter or darker than the one around it by 10 or 20.
@@ -443,6 +462,7 @@ fn check_picture(report: &mut Report, random: &mut Random, picture: &Picture) {
         ..Call::good(picture, attribute, neighbours, step_list(random, &sizes))
     };
     check_laws(report, random, &call, [&truths[0], &truths[1]]);
+    check_triples(report, random, [&truths[0], &truths[1]]);
 }
 
 /// Every set of causes; the list is out of range or out of order. Where an output is wrong it is
@@ -483,6 +503,7 @@ fn wrong_outputs(report: &mut Report, random: &mut Random) {
                     }
                     call.outputs[output] = length;
                     check_maps(report, random, &call, &forest);
+                    check_maps(report, random, &call.by_triples(), &forest);
                 }
             }
         }

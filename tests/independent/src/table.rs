@@ -1,5 +1,6 @@
 // The scope, "Table of small pictures" and the readings that mislead: expected values as printed
-// there, for both programs here and for the library. The small pictures are set in a ring, one
+// there, for both programs here and for the library, given thresholds and given triples with two
+// zeros, which open as they do. The small pictures are set in a ring, one
 // pixel wide, of their least grey; their maps and openings inside it stay, and the tree case is
 // worked out again, with its list of nodes. With 8 neighbours named the two-row case has zero maps
 // and the others stay.
@@ -8,6 +9,7 @@ use crate::calls::{check_build, check_gaps, check_maps, check_open, ByDefinition
 use crate::causes::MOST_THRESHOLD;
 use crate::definition::{Picture, Record, CUT};
 use crate::fast::Forest;
+use crate::parts::Triple;
 use crate::pictures::{in_ring, ring};
 use crate::random::Random;
 use crate::report::Report;
@@ -43,37 +45,58 @@ impl Table<'_> {
     }
 
     pub fn maps(&mut self, picture: &Picture, named: (u32, &[u32]), residue: &[u8], index: &[u16]) {
+        let call = Call::good(picture, named.0, self.neighbours, named.1.to_vec());
+        for call in [&call, &call.by_triples()] {
+            self.maps_of(picture, call, residue, index);
+        }
+    }
+
+    pub fn triple_maps(
+        &mut self,
+        picture: &Picture,
+        triples: &[Triple],
+        residue: &[u8],
+        index: &[u16],
+    ) {
+        let call = Call::triples(picture, self.neighbours, triples);
+        self.maps_of(picture, &call, residue, index);
+    }
+
+    fn maps_of(&mut self, picture: &Picture, call: &Call, residue: &[u8], index: &[u16]) {
         let truth = ByDefinition::of(picture, self.neighbours);
         let forest = Forest::of(picture, self.neighbours);
+        let gaps = [self.gap];
         let due = [(residue.to_vec(), index.to_vec())];
-        let same = truth.maps(named.0, named.1, &[self.gap]) == due
-            && forest.maps(named.0, named.1, &[self.gap]) == due;
+        let same = call.maps(&truth, &gaps) == due && call.maps(&forest, &gaps) == due;
         self.defined(same, "maps", picture);
         let call = Call {
             gap: self.gap,
-            ..Call::good(picture, named.0, self.neighbours, named.1.to_vec())
+            ..call.clone()
         };
         check_maps(self.report, &mut self.random, &call, &truth);
         for turn in [0, 2] {
-            check_gaps(
-                self.report,
-                &mut self.random,
-                &call,
-                &[self.gap],
-                &truth,
-                turn,
-            );
+            check_gaps(self.report, &mut self.random, &call, &gaps, &truth, turn);
         }
     }
 
     pub fn opening(&mut self, picture: &Picture, named: (u32, u32), opened: &[u8]) {
+        let call = Call::good(picture, named.0, self.neighbours, vec![named.1]);
+        for call in [&call, &call.by_triples()] {
+            self.opening_of(picture, call, opened);
+        }
+    }
+
+    pub fn triple_opening(&mut self, picture: &Picture, triple: Triple, opened: &[u8]) {
+        let call = Call::triples(picture, self.neighbours, &[triple]);
+        self.opening_of(picture, &call, opened);
+    }
+
+    fn opening_of(&mut self, picture: &Picture, call: &Call, opened: &[u8]) {
         let truth = ByDefinition::of(picture, self.neighbours);
         let forest = Forest::of(picture, self.neighbours);
-        let same =
-            truth.opening(named.0, named.1) == opened && forest.opening(named.0, named.1) == opened;
+        let same = call.opening(&truth) == opened && call.opening(&forest) == opened;
         self.defined(same, "opening", picture);
-        let call = Call::good(picture, named.0, self.neighbours, vec![named.1]);
-        check_open(self.report, &mut self.random, &call, &truth);
+        check_open(self.report, &mut self.random, call, &truth);
     }
 
     pub fn defined(&mut self, same: bool, what: &str, picture: &Picture) {
@@ -138,14 +161,18 @@ impl Table<'_> {
         let truth = ByDefinition::of(picture, self.neighbours);
         for t in [0, 1, MOST_THRESHOLD, MOST_THRESHOLD + 1] {
             let call = Call::good(picture, AREA, self.neighbours, vec![t]);
-            check_open(self.report, &mut self.random, &call, &truth);
-            check_maps(self.report, &mut self.random, &call, &truth);
+            for call in [&call, &call.by_triples()] {
+                check_open(self.report, &mut self.random, call, &truth);
+                check_maps(self.report, &mut self.random, call, &truth);
+            }
         }
         for count in [0, 1, 255, 256, 257] {
             for end in [count, MOST_THRESHOLD] {
                 let steps = (end - count + 1..=end).collect();
                 let call = Call::good(picture, AREA, self.neighbours, steps);
-                check_maps(self.report, &mut self.random, &call, &truth);
+                for call in [&call, &call.by_triples()] {
+                    check_maps(self.report, &mut self.random, call, &truth);
+                }
             }
         }
     }
