@@ -106,7 +106,7 @@ fn sized(
     let mapped = residues::map(
         picture,
         grid,
-        attribute,
+        calls::Kind::Thresholds(attribute),
         steps,
         gap,
         &mut workspace[..causes::WORDS_A_PIXEL * n],

@@ -10,7 +10,7 @@ fn called(
     call: u32,
     picture: &[u8],
     grid: Grid,
-    attribute: u32,
+    kind: calls::Kind,
     steps: &[u32],
     gap: u32,
     workspace: &mut [u32],
@@ -19,21 +19,12 @@ fn called(
     contrast: &mut [i16],
 ) -> calls::Verdict {
     if call == 1 {
-        return dark::dark_map(
-            picture,
-            grid,
-            attribute,
-            steps,
-            gap,
-            workspace,
-            residue,
-            index,
-        );
+        return dark::dark_map(picture, grid, kind, steps, gap, workspace, residue, index);
     }
     dark::combined_map(
         picture,
         grid,
-        attribute,
+        kind,
         steps,
         gap,
         workspace,
@@ -48,7 +39,7 @@ fn maps(
     call: u32,
     picture: &[u8],
     grid: Grid,
-    attribute: u32,
+    kind: calls::Kind,
     steps: &[u32],
     gap: u32,
     workspace: &mut [u32],
@@ -61,7 +52,7 @@ fn maps(
         call,
         picture,
         grid,
-        attribute,
+        kind,
         steps,
         gap,
         workspace,
@@ -98,7 +89,7 @@ fn case(line: &[u8]) {
             height: table::number(line, 4),
             neighbours: table::number(line, 6),
         },
-        table::number(line, 5),
+        calls::Kind::Thresholds(table::number(line, 5)),
         table::words(line, 7, &mut thresholds),
         table::number(line, 8),
         table::lent_words(line, 9, &mut workspace),

@@ -25,7 +25,7 @@ fn maps(
             height,
             neighbours,
         },
-        attribute,
+        calls::Kind::Thresholds(attribute),
         steps,
         gap,
         workspace,

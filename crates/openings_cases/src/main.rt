@@ -22,8 +22,7 @@ fn case(line: &[u8]) {
             height,
             neighbours,
         },
-        attribute,
-        threshold,
+        calls::Step::Threshold(attribute, threshold),
         table::lent_words(line, 7, &mut workspace),
         table::lent_bytes(line, 8, &mut output),
     );

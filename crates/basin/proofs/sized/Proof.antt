@@ -7,6 +7,7 @@ use lib.ListN.{length, take, drop}
 use denote.Ref.{now}
 use Rattle.causes.specs.Bounds.{words-a-pixel}
 use Rattle.calls.specs.Calls.{Map-call}
+use Rattle.calls.specs.declared.Kind.the-variants.{Thresholds}
 use Rattle.calls.proofs.Answers.{verdict-determined}
 use Rattle.basin.proofs.Lending.{taken, returned, done-wide}
 use borrow.Author.Needs.{needs}
@@ -57,7 +58,7 @@ call c =
     record {
       picture = now (a .picture);
       grid = a .grid;
-      attribute = a .attribute;
+      kind = Thresholds (a .attribute);
       steps = now (a .steps);
       gap = a .gap;
       workspace = take (words-a-pixel * n) (now (a .workspace));
