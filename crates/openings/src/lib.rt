@@ -89,12 +89,12 @@ fn take_falls(picture: &[u8], ws: &[u32], output: &mut [u8])
     ensures { λ _. ⌜ now (output .exit) ≡ table (length (now (picture .entry))) (λ (q : ℕ). less-its-fall (now (picture .entry)) (now (ws .entry)) q) ⌝ }
 {
     let n = picture.len();
-    let mut p: usize = 0;
-    while p < n {
-        let k = ws[p] as usize;
+    let mut q: usize = 0;
+    while q < n {
+        let k = ws[q] as usize;
         let fall = (ws[6 * n + k] % 256) as u8;
-        output[p] = picture[p] - fall;
-        p += 1;
+        output[q] = picture[q] - fall;
+        q += 1;
     }
 }
 

@@ -1,4 +1,4 @@
--- `openings::take_falls` meets its contract. The loop's invariant: the entries below p have their grey less what falls. The measure is how many
+-- `openings::take_falls` meets its contract. The loop's invariant: the entries below q have their grey less what falls. The measure is how many
 -- pixels are left.
 use Prim.Native.Nat.{_-_, _≤_, _<_}
 use mathlib.Core.Path.{refl}
@@ -13,16 +13,16 @@ use Rattle.openings.proofs.take_falls.Statement.{statement}
 use Rattle.openings.proofs.take_falls.Tie as tie
 
 abbrev Inv-loop : tie.InvT-loop
-Inv-loop picture ws output₀ n p₀ output p = (p ≤ length picture) × Filled-to 0 (length picture) (less-its-fall picture ws) output p
+Inv-loop picture ws output₀ n q₀ output q = (q ≤ length picture) × Filled-to 0 (length picture) (less-its-fall picture ws) output q
 
 abbrev μ-loop : tie.MeasureT-loop
-μ-loop picture ws output₀ n p₀ output p = length picture - p
+μ-loop picture ws output₀ n q₀ output q = length picture - q
 
-number : (c : tie.In-loop Inv-loop μ-loop) → getD (c .before .before .args .ws .now) (c .before .loop .p) 0 < length (c .before .before .args .picture .now)
-number c = (c .before .before) .pre .holdable .within (c .before .loop .p) (c .loop-test .taken)
+number : (c : tie.In-loop Inv-loop μ-loop) → getD (c .before .before .args .ws .now) (c .before .loop .q) 0 < length (c .before .before .args .picture .now)
+number c = (c .before .before) .pre .holdable .within (c .before .loop .q) (c .loop-test .taken)
 
-fewer : (c : tie.In-loop Inv-loop μ-loop) → total-in (pair-for (length (c .before .before .args .picture .now)) (c .before .before .args .ws .now) (c .before .loop .p)) ≤ getD (c .before .before .args .picture .now) (c .before .loop .p) 0
-fewer c = (c .before .before) .pre .less (c .before .loop .p) (c .loop-test .taken)
+fewer : (c : tie.In-loop Inv-loop μ-loop) → total-in (pair-for (length (c .before .before .args .picture .now)) (c .before .before .args .ws .now) (c .before .loop .q)) ≤ getD (c .before .before .args .picture .now) (c .before .loop .q) 0
+fewer c = (c .before .before) .pre .less (c .before .loop .q) (c .loop-test .taken)
 
 loop-holds : tie.Need-loop-holds Inv-loop μ-loop
 loop-holds c = (omega arith, filled-none (c .pre .holdable .pairs-size))
@@ -60,8 +60,8 @@ sub-output c = omega (arith, fewer (c .before .before .before))
 slice-write-output : tie.Need-slice-write-output Inv-loop μ-loop
 slice-write-output c = omega (arith, c .before .before .before .before .loop .inv .1 .size)
 
-add-p : tie.Need-add-p Inv-loop μ-loop
-add-p c = search needs
+add-q : tie.Need-add-q Inv-loop μ-loop
+add-q c = search needs
 
 loop-less : tie.Need-loop-less Inv-loop μ-loop
 loop-less c = search needs
@@ -93,7 +93,7 @@ take-falls-spec =
     shared-slice-read-output
     sub-output
     slice-write-output
-    add-p
+    add-q
     loop-less
     loop-again
     same-length
