@@ -5,5 +5,6 @@ pub mod Frame
 pub mod Reversed
 pub mod Combined
 pub mod RootToLeaf
+pub mod Alike
 pub mod Judging
 pub mod Answers

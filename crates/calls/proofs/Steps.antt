@@ -1,8 +1,8 @@
 -- Steps of both kinds: what a step keeps holds of more as a set grows, and is what its triple keeps; the tests of a good list get narrower; a list of
 -- thresholds and its triples are judged alike and keep the same. That a test holds of more as a set grows asks that a picture has no more pixels
 -- than it may have; the rest assumes nothing.
-use Prim.Native.Nat.{ℕ, suc, _+_, _*_, _/_, _%_, _≤_, _<_, max}
-use mathlib.Core.Bool.{Bool, true, false, cond, _&&_, _||_}
+use Prim.Native.Nat.{ℕ, _*_, _/_, _%_, _≤_, _<_, max}
+use mathlib.Core.Bool.{Bool, true, false, _&&_, _||_}
 use mathlib.Core.List.{List, [], _∷_, map}
 use mathlib.Core.Logic.{_⊎_, inl, inr, ⊎-elim}
 use mathlib.Core.Path.{_≡_, refl, sym, ap, fun-ext, subst, _∙_}
@@ -313,3 +313,12 @@ list-judged a steps =
     (λ e. le-leb l most-steps (omega (arith, leb-true k (3 * most-steps) e))) in
     let whole : eqb (k % 3) 0 ≡ true = eq-eqb (k % 3) 0 (omega arith) in
     rw (whole, ← some, ← few, words-read (map (need a) steps), ← need-none a, ← rising-alone a 0 steps) refl
+
+-- one threshold and its triple
+pub threshold-judged : (a t : ℕ) → threshold-good t ≡ may-follow zeros (need a t)
+unfolding threshold-good
+threshold-judged a t =
+    let alone : (ltb 0 t && threshold-good t) ≡ may-follow zeros (need a t) = rw (need-none a) at (alone-follows a 0 t) in
+    same-truth (threshold-good t) (may-follow zeros (need a t))
+    (λ good. sym alone ∙ and-both (ltb 0 t) (threshold-good t) (lt-ltb 0 t (omega (arith, threshold-some t good))) good)
+    (λ may. and-right (ltb 0 t) (threshold-good t) (alone ∙ may))

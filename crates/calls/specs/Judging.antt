@@ -14,7 +14,7 @@ use Rattle.causes.specs.Causes.{number-of}
 use Rattle.causes.specs.Sides.{sides-fit}
 use Rattle.causes.specs.declared.Cause.{Cause}
 use Rattle.causes.specs.declared.Cause.the-variants.{Sides, PictureLength, Attribute, Steps, Workspace, Output, Neighbours, Gap}
-use Rattle.calls.specs.Steps.{triples-in, step-attribute, list-attribute}
+use Rattle.calls.specs.Steps.{triples-in, list-attribute}
 use Rattle.calls.specs.declared.Step.{Step}
 use Rattle.calls.specs.declared.Step.the-variants.{Threshold, Three}
 use Rattle.calls.specs.declared.Kind.{Kind}

@@ -4,3 +4,4 @@ pub mod Calls
 pub mod Reversed
 pub mod Combined
 pub mod RootToLeaf
+pub mod Alike

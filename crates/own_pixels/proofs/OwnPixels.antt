@@ -27,7 +27,7 @@ use Rattle.accumulators.specs.Accumulators.{nothing, seen, combined, gathered, 
 use Rattle.accumulators.proofs.Accumulators.{gathered-with, seen-small, seen-one, seen-capped, gathered-small, gathered-area-le, gathered-framed}
 use Rattle.parts.proofs.Parts.{lent, returned, lent-long, lent-read, read-one, read-two, read-else}
 use Rattle.frame.specs.Frame.{Marked, Framable}
-use Rattle.own_pixels.specs.OwnPixels.{Countable, Kept, Blank, Gatherable, gathered-at, Seen, Owned}
+use Rattle.own_pixels.specs.OwnPixels.{Countable, Blank, Gatherable, gathered-at, Seen, Owned}
 
 -- the words of the nodes, and the three of the node k among them
 abbrev nodes : ℕ → List ℕ → List ℕ

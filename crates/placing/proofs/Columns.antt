@@ -9,7 +9,7 @@ use lib.Dec.{leb}
 use lib.ListN.{getD, length, take, length-map, List·getD-map}
 use lib.Seq.{length-take-le, getD-take}
 use borrow.Author.Tests.{le-leb}
-use Rattle.sets.specs.Sets.{Positions, table}
+use Rattle.sets.specs.Sets.{Positions}
 use Rattle.sets.proofs.Tests.{and-left, and-right, and-both}
 use Rattle.sets.proofs.Tables.{as-table}
 use Rattle.opening.specs.Residue.{not-falling}

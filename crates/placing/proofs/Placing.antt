@@ -12,7 +12,6 @@ use Rattle.opening.specs.Node.{node}
 use Rattle.opening.specs.Residue.{not-falling}
 use Rattle.opening.proofs.Components.{level-same}
 use Rattle.opening.proofs.Residue.{rising-not-falling}
-use Rattle.grid.specs.Pixels.{pixels}
 use Rattle.grid.specs.Neighbours.{adjacent}
 use Rattle.grid.specs.Attributes.{attribute}
 use Rattle.grid.specs.Greys.{grey}
@@ -24,11 +23,9 @@ use Rattle.tree.specs.Tree.{representative}
 use Rattle.tree.proofs.Representatives.{representative-in, representative-grey}
 use Rattle.falls.specs.Falls.{outlasted, places-before}
 use Rattle.falls.proofs.Outlasted.{outlasted-le}
-use Rattle.falls.proofs.Places.{places-outlasted, places-le}
+use Rattle.falls.proofs.Places.{places-outlasted}
 use Rattle.causes.specs.Bounds.{most-steps}
 use Rattle.levels.specs.Workspace.{Sized, number-at, closed-of, drop-of, lowest-of, up-of, held-of}
-use Rattle.flood.specs.Calls.{NumberedBy}
-use Rattle.numbers.specs.Nodes.{NodesOf}
 use Rattle.numbers.proofs.Same.{numbered-same, nodes-same}
 use Rattle.parts.specs.Parts.{filled}
 use Rattle.parts.proofs.Parts.{lent, returned, part-filled, filled-long, filled-before, filled-inside, filled-after}
@@ -38,8 +35,8 @@ use Rattle.calls.specs.Judging.{steps-good, triples-good, list-good}
 use Rattle.calls.specs.declared.Kind.{Kind}
 use Rattle.calls.specs.declared.Kind.the-variants.{Thresholds, Triples}
 use Rattle.calls.proofs.Accepted.{step-list}
-use Rattle.calls.proofs.Steps.{Triple-list, triple-list, length-triples}
-use Rattle.max_tree.specs.Building.{Buildable, Flooded, Noded, Measured}
+use Rattle.calls.proofs.Steps.{triple-list, length-triples}
+use Rattle.max_tree.specs.Building.{Flooded, Noded, Measured}
 use Rattle.max_tree.proofs.Assembly.{sized, rebuildable}
 use Rattle.placing.specs.Placing.{Started, Limited, Lowered-by, Limited-by, Placed}
 use Rattle.placing.proofs.Columns.{area-in, height-in, width-in, areas-rise, heights-rise, widths-rise, outlasted-triples}

@@ -4,7 +4,6 @@ use mathlib.Core.List.{List}
 use mathlib.Core.Path.{_≡_}
 use lib.ListN.{getD, length}
 use Rattle.sets.specs.Sets.{Positions, member}
-use Rattle.opening.specs.Opening.{Keeps}
 use Rattle.opening.specs.Node.{node}
 use Rattle.grid.specs.Pixels.{pixels}
 use Rattle.grid.specs.Neighbours.{adjacent}

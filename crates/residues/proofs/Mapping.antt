@@ -21,7 +21,7 @@ use Rattle.calls.specs.declared.Verdict.{Verdict}
 use Rattle.calls.specs.declared.Verdict.the-variants.{Accepted, Refused}
 use Rattle.calls.proofs.Accepted.{Map-passed, map-passed, bounded}
 use Rattle.calls.proofs.Steps.{everything, list-narrow, list-few}
-use Rattle.max_tree.specs.Building.{Noded, Recordable, Recorded}
+use Rattle.max_tree.specs.Building.{Recordable, Recorded}
 use Rattle.max_tree.proofs.Assembly.{rebuildable}
 use Rattle.map_passes.specs.Settle.{total-in, index-in}
 use Rattle.map_passes.specs.Passes.{Given, pair-for, Right-pairs, Holdable, Paired}
