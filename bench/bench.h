@@ -96,12 +96,12 @@ picture_t reversed_in(const picture_t *picture, result_t *result);
 void small_places(const uint32_t *steps, size_t count, uint32_t small[256]);
 uint32_t outlasted(const uint32_t *steps, uint32_t count, uint32_t attribute);
 
-/* An accumulator is a count, or the last row (column) above the first, which is stored as 4,095 less it: here of what is seen of a pixel. */
+/* An accumulator is a count, or the last row (column) above the first, which is stored as 4,095 less it: here of one pixel in a row (column). */
+static inline uint32_t lone(uint32_t attribute, uint32_t side) { return attribute == AREA ? 1 : side << 12 | (4095 - side); }
+
+/* The same of what is seen of a pixel. */
 static inline uint32_t single(uint32_t attribute, uint32_t width, uint32_t p) {
-    if (attribute == AREA)
-        return 1;
-    uint32_t place = attribute == HEIGHT ? p / width : p % width;
-    return place << 12 | (4095 - place);
+    return lone(attribute, attribute == HEIGHT ? p / width : p % width);
 }
 
 /* The accumulator of what is seen of two sets. */
