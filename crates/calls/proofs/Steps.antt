@@ -121,21 +121,27 @@ module _ (grid : Grid) where
   unfolding rising-triples
   triples-narrow few low [] e = tt
   triples-narrow few low (t ∷ rest) e =
-      (meets-up grid few t, meets-less grid low t (follows low t (and-left (may-follow low t) (rising-triples t rest) e) .no-fall), triples-narrow few t rest (and-right (may-follow low t) (rising-triples t rest) e))
+      let here = follows low t (and-left (may-follow low t) (rising-triples t rest) e) in
+      let later = and-right (may-follow low t) (rising-triples t rest) e in
+      (meets-up grid few t, meets-less grid low t (here .no-fall), triples-narrow few t rest later)
 
   triples-touched : (low : Triple) (ts : List Triple) → rising-triples low ts ≡ true → (s : Positions) → touches-frame grid s ≡ true
       → Passes-all s (map (meets grid) ts)
   unfolding rising-triples
   triples-touched low [] e s frame = tt
   triples-touched low (t ∷ rest) e s frame =
-      (meets-touched grid t (follows low t (and-left (may-follow low t) (rising-triples t rest) e) .in-range) s frame, triples-touched t rest (and-right (may-follow low t) (rising-triples t rest) e) s frame)
+      let here = follows low t (and-left (may-follow low t) (rising-triples t rest) e) in
+      let later = and-right (may-follow low t) (rising-triples t rest) e in
+      (meets-touched grid t (here .in-range) s frame, triples-touched t rest later s frame)
 
   thresholds-touched : (a : ℕ) (steps : List ℕ) → all-good steps ≡ true → (s : Positions) → touches-frame grid s ≡ true
       → Passes-all s (threshold-tests (attribute grid a) steps)
   unfolding all-good
   thresholds-touched a [] e s frame = tt
   thresholds-touched a (t ∷ rest) e s frame =
-      (le-leb t (attribute grid a s) (omega (arith, threshold-top t (and-left (threshold-good t) (all-good rest) e), attribute-touched grid a s frame)), thresholds-touched a rest (and-right (threshold-good t) (all-good rest) e) s frame)
+      let here = threshold-top t (and-left (threshold-good t) (all-good rest) e) in
+      let later = and-right (threshold-good t) (all-good rest) e in
+      (le-leb t (attribute grid a s) (omega (arith, here, attribute-touched grid a s frame)), thresholds-touched a rest later s frame)
 
 -- a list of triples
 pub record Triple-list (words : List ℕ) : Type 0 where

@@ -53,22 +53,39 @@ mul-t17 : tie.Need-mul-t17 Inv-loop μ-loop
 mul-t17 c = omega (arith, three-left _ (c .before .before .before .loop .inv) (c .before .before .loop-test .taken))
 
 shared-slice-read-t19 : tie.Need-shared-slice-read-t19 Inv-loop μ-loop
-shared-slice-read-t19 c = omega (arith, three-left _ (c .before .before .before .before .loop .inv) (c .before .before .before .loop-test .taken))
+shared-slice-read-t19 c =
+    let at-loop-test = c .before .before .before in
+    let at-loop = at-loop-test .before in
+    omega (arith, three-left _ (at-loop .loop .inv) (at-loop-test .loop-test .taken))
 
 may-follow-requires : tie.Need-may-follow-requires Inv-loop μ-loop
 may-follow-requires c κs = search needs
 
 returns-4 : tie.Need-returns-4 Inv-loop μ-loop
-returns-4 c = not-following _ (c .before .before .before .before .before .before .loop .inv) (c .before .before .before .before .before .loop-test .taken) (sym (c .before .may-follow .ensures) ∙ not-true _ (c .if4 .taken))
+returns-4 c =
+    let at-may-follow = c .before in
+    let at-loop-test = at-may-follow .before .before .before .before in
+    let at-loop = at-loop-test .before in
+    not-following _ (at-loop .loop .inv) (at-loop-test .loop-test .taken) (sym (at-may-follow .may-follow .ensures) ∙ not-true _ (c .if4 .taken))
 
 add-i : tie.Need-add-i Inv-loop μ-loop
-add-i c = omega (arith, three-left _ (c .before .before .before .before .before .before .loop .inv) (c .before .before .before .before .before .loop-test .taken))
+add-i c =
+    let at-loop-test = c .before .before .before .before .before in
+    let at-loop = at-loop-test .before in
+    omega (arith, three-left _ (at-loop .loop .inv) (at-loop-test .loop-test .taken))
 
 loop-less : tie.Need-loop-less Inv-loop μ-loop
-loop-less c = omega (arith, three-left _ (c .before .before .before .before .before .before .loop .inv) (c .before .before .before .before .before .loop-test .taken))
+loop-less c =
+    let at-loop-test = c .before .before .before .before .before in
+    let at-loop = at-loop-test .before in
+    omega (arith, three-left _ (at-loop .loop .inv) (at-loop-test .loop-test .taken))
 
 loop-again : tie.Need-loop-again Inv-loop μ-loop
-loop-again c = followed-more _ (c .before .before .before .before .before .before .loop .inv) (c .before .before .before .before .before .loop-test .taken) (sym (c .before .may-follow .ensures) ∙ not-false _ (c .if4 .left))
+loop-again c =
+    let at-may-follow = c .before in
+    let at-loop-test = at-may-follow .before .before .before .before in
+    let at-loop = at-loop-test .before in
+    followed-more _ (at-loop .loop .inv) (at-loop-test .loop-test .taken) (sym (at-may-follow .may-follow .ensures) ∙ not-false _ (c .if4 .left))
 
 returns-5 : tie.Need-returns-5 Inv-loop μ-loop
 returns-5 c = followed-end _ (c .before .loop .inv) (c .loop-test .left)

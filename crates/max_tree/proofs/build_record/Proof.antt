@@ -10,13 +10,19 @@ measure-nodes-requires : tie.Need-measure-nodes-requires
 measure-nodes-requires c κs = c .before .before .before .number-nodes .ensures
 
 write-whole-requires : tie.Need-write-whole-requires
-write-whole-requires c κs = record { grid = _; attribute = _; number = c .before .before .before .before .before .before .before .number-nodes .result; noded = c .before .before .before .measure-nodes .ensures .noded }
+write-whole-requires c κs =
+    let at-measure-nodes = c .before .before .before in
+    let at-number-nodes = at-measure-nodes .before .before .before .before in
+    record { grid = _; attribute = _; number = at-number-nodes .number-nodes .result; noded = at-measure-nodes .measure-nodes .ensures .noded }
 
 same-length : tie.Need-same-length
 same-length c = search needs
 
 returns : tie.Need-returns
-returns c = c .before .before .write-whole .ensures .whole _ _ _ (c .before .before .before .before .before .before .measure-nodes .ensures .noded)
+returns c =
+    let at-write-whole = c .before .before in
+    let at-measure-nodes = at-write-whole .before .before .before .before in
+    at-write-whole .write-whole .ensures .whole _ _ _ (at-measure-nodes .measure-nodes .ensures .noded)
 
 pub build-record-spec : {M : Type 1} → statement M
 build-record-spec =

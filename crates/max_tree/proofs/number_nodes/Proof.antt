@@ -11,7 +11,10 @@ same-length : tie.Need-same-length
 same-length c = search needs
 
 returns : tie.Need-returns
-returns c = record { buildable = rebuildable ((c .before .before .before .before .before .before) .pre) (c .before .before .flood .kept .1 .1 .0); numbers = c .before .before .flood .ensures }
+returns c =
+    let at-flood = c .before .before in
+    let start = at-flood .before .before .before .before in
+    record { buildable = rebuildable (start .pre) (at-flood .flood .kept .1 .1 .0); numbers = at-flood .flood .ensures }
 
 pub number-nodes-spec : {M : Type 1} → statement M
 number-nodes-spec = tie.close (tie.spec flood-requires same-length returns)

@@ -73,7 +73,11 @@ same-length-2 : tie.Need-same-length-2
 same-length-2 c = search needs
 
 returns-2 : tie.Need-returns-2
-returns-2 c = called-done (call (c .before .before .before .before .before .before .before .before .before)) (judged (c .before .before .before .before .before .before .before .before .before)) (c .before .before .before .before .before .before .before .enum-told .given .1) (c .before .before .before .before .open-by .ensures)
+returns-2 c =
+    let opened = c .before .before .before .before in
+    let told = opened .before .before .before in
+    let at = told .before .before in
+    called-done (call at) (judged at) (told .enum-told .given .1) (opened .open-by .ensures)
 
 pub open-spec : {M : Type 1} → statement M
 open-spec =

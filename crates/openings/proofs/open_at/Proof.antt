@@ -8,7 +8,10 @@ build-record-requires : tie.Need-build-record-requires
 build-record-requires c κs = (c .before .before .before .before) .pre .buildable
 
 open-record-requires : tie.Need-open-record-requires
-open-record-requires c κs = pass-asks ((c .before .before .before .before .before .before .before .before .before) .pre) (c .before .before .before .before .build-record .ensures .left)
+open-record-requires c κs =
+    let at-build-record = c .before .before .before .before in
+    let start = at-build-record .before .before .before .before .before in
+    pass-asks (start .pre) (at-build-record .build-record .ensures .left)
 
 same-length : tie.Need-same-length
 same-length c = search needs
@@ -17,7 +20,11 @@ same-length-2 : tie.Need-same-length-2
 same-length-2 c = search needs
 
 returns : tie.Need-returns
-returns c = opened-at ((c .before .before .before .before .before .before .before .before .before .before .before .before) .pre) (c .before .before .before .before .before .before .before .build-record .ensures .left) (c .before .before .open-record .kept .1 .1 .1 .0) (c .before .before .open-record .ensures)
+returns c =
+    let at-open-record = c .before .before in
+    let at-build-record = at-open-record .before .before .before .before .before in
+    let start = at-build-record .before .before .before .before .before in
+    opened-at (start .pre) (at-build-record .build-record .ensures .left) (at-open-record .open-record .kept .1 .1 .1 .0) (at-open-record .open-record .ensures)
 
 pub open-at-spec : {M : Type 1} → statement M
 open-at-spec =

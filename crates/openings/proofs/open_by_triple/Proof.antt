@@ -21,7 +21,10 @@ settle-requires : tie.Need-settle-requires
 settle-requires c κs = settle-asks ((c .before .before .before .before .before) .pre)
 
 take-falls-requires : tie.Need-take-falls-requires
-take-falls-requires c κs = falls-asks ((c .before .before .before .before .before .before .before .before .before .before) .pre) (c .before .before .before .before .settle .ensures)
+take-falls-requires c κs =
+    let at-settle = c .before .before .before .before in
+    let start = at-settle .before .before .before .before .before .before in
+    falls-asks (start .pre) (at-settle .settle .ensures)
 
 write-whole-requires : tie.Need-write-whole-requires
 write-whole-requires c κs = record-asks (c .before .before .before .before .before .before .before .before .settle .ensures)
@@ -33,7 +36,12 @@ same-length-2 : tie.Need-same-length-2
 same-length-2 c = search needs
 
 returns : tie.Need-returns
-returns c = opened-by-triple ((c .before .before .before .before .before .before .before .before .before .before .before .before .before .before .before .before .before) .pre) (c .before .before .before .before .before .before .before .before .before .before .before .settle .ensures) (c .before .before .write-whole .ensures) (c .before .before .before .before .before .before .take-falls .ensures)
+returns c =
+    let at-write-whole = c .before .before in
+    let at-take-falls = at-write-whole .before .before .before .before in
+    let at-settle = at-take-falls .before .before .before .before .before in
+    let start = at-settle .before .before .before .before .before .before in
+    opened-by-triple (start .pre) (at-settle .settle .ensures) (at-write-whole .write-whole .ensures) (at-take-falls .take-falls .ensures)
 
 pub open-by-triple-spec : {M : Type 1} → statement M
 open-by-triple-spec =

@@ -18,11 +18,14 @@ Inv-loop picture ws output₀ n q₀ output q = (q ≤ length picture) × Filled
 abbrev μ-loop : tie.MeasureT-loop
 μ-loop picture ws output₀ n q₀ output q = length picture - q
 
+-- the number of a pixel's node has a word, and the fall is no more than the pixel's grey
 number : (c : tie.In-loop Inv-loop μ-loop) → getD (c .before .before .args .ws .now) (c .before .loop .q) 0 < length (c .before .before .args .picture .now)
-number c = (c .before .before) .pre .holdable .within (c .before .loop .q) (c .loop-test .taken)
+number c = c .before .before .pre .holdable .within (c .before .loop .q) (c .loop-test .taken)
 
-fewer : (c : tie.In-loop Inv-loop μ-loop) → total-in (pair-for (length (c .before .before .args .picture .now)) (c .before .before .args .ws .now) (c .before .loop .q)) ≤ getD (c .before .before .args .picture .now) (c .before .loop .q) 0
-fewer c = (c .before .before) .pre .less (c .before .loop .q) (c .loop-test .taken)
+fewer : (c : tie.In-loop Inv-loop μ-loop)
+    → let a = c .before .before .args in
+    total-in (pair-for (length (a .picture .now)) (a .ws .now) (c .before .loop .q)) ≤ getD (a .picture .now) (c .before .loop .q) 0
+fewer c = c .before .before .pre .less (c .before .loop .q) (c .loop-test .taken)
 
 loop-holds : tie.Need-loop-holds Inv-loop μ-loop
 loop-holds c = (omega arith, filled-none (c .pre .holdable .pairs-size))
@@ -67,7 +70,10 @@ loop-less : tie.Need-loop-less Inv-loop μ-loop
 loop-less c = search needs
 
 loop-again : tie.Need-loop-again Inv-loop μ-loop
-loop-again c = (omega arith, filled-more (c .before .before .before .before .loop .inv .1) (c .before .before .before .loop-test .taken) _ refl)
+loop-again c =
+    let at-loop-test = c .before .before .before in
+    let at-loop = at-loop-test .before in
+    (omega arith, filled-more (at-loop .loop .inv .1) (at-loop-test .loop-test .taken) _ refl)
 
 same-length : tie.Need-same-length Inv-loop μ-loop
 same-length c = omega (arith, c .before .loop .inv .1 .size, (c .before .before) .pre .holdable .pairs-size)

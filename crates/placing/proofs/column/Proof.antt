@@ -10,7 +10,8 @@ use Rattle.placing.proofs.column.Statement.{statement}
 use Rattle.placing.proofs.column.Tie as tie
 
 abbrev Inv-loop : tie.InvT-loop
-Inv-loop words part entries₀ count i₀ entries i = (i ≤ length words / 3) × (length entries ≡ 256) × ((k : ℕ) → k < i → getD entries k 0 ≡ getD words (3 * k + part) 0)
+Inv-loop words part entries₀ count i₀ entries i =
+    (i ≤ length words / 3) × (length entries ≡ 256) × ((k : ℕ) → k < i → getD entries k 0 ≡ getD words (3 * k + part) 0)
 
 abbrev μ-loop : tie.MeasureT-loop
 μ-loop words part entries₀ count i₀ entries i = length words / 3 - i
@@ -43,11 +44,13 @@ loop-less : tie.Need-loop-less Inv-loop μ-loop
 loop-less c = omega arith
 
 loop-again : tie.Need-loop-again Inv-loop μ-loop
-loop-again c = (
-  omega arith,
-  simp length-set (c .before .before .loop .inv .1),
-  stored-more 0 (c .before .before .loop .entries) (λ (k : ℕ). getD ((c .before .before .before) .args .words .now) (3 * k + (c .before .before .before) .args .part) 0) (c .before .before .loop .i) _ (omega (arith, c .before .before .loop .inv .1)) (c .before .before .loop .inv .2) refl,
-)
+loop-again c =
+    let at = c .before .before .loop in
+    let a = c .before .before .before .args in (
+      omega arith,
+      simp length-set (at .inv .1),
+      stored-more 0 (at .entries) (λ (k : ℕ). getD (a .words .now) (3 * k + a .part) 0) (at .i) _ (omega (arith, at .inv .1)) (at .inv .2) refl,
+    )
 
 returns : tie.Need-returns Inv-loop μ-loop
 returns c = λ i b. c .before .loop .inv .2 i (omega arith)

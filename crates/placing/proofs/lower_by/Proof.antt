@@ -8,7 +8,10 @@ measure-nodes-requires : tie.Need-measure-nodes-requires
 measure-nodes-requires c κs = (c .before .before .before .before) .pre .0
 
 lower-requires : tie.Need-lower-requires
-lower-requires c κs = lower-asked (c .before .before .before .measure-nodes .ensures) ((c .before .before .before .before .before .before .before .before) .pre .1 .0) ((c .before .before .before .before .before .before .before .before) .pre .1 .1)
+lower-requires c κs =
+    let at-measure-nodes = c .before .before .before in
+    let start = at-measure-nodes .before .before .before .before .before in
+    lower-asked (at-measure-nodes .measure-nodes .ensures) (start .pre .1 .0) (start .pre .1 .1)
 
 same-length : tie.Need-same-length
 same-length c = search needs

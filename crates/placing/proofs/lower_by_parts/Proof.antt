@@ -14,17 +14,28 @@ use borrow.Author.Needs.{needs}
 use Rattle.placing.proofs.lower_by_parts.Statement.{statement}
 use Rattle.placing.proofs.lower_by_parts.Tie as tie
 
+-- there are not too many words; and what the three columns hold
 few : (c : tie.Start) → length (c .args .words .now) ≤ 3 * most-steps
 few c = triple-list _ (c .pre .1) .not-more
 
-tall : (c : tie.After-column) → take (length (c .before .before .before .before .args .words .now) / 3) (c .column .result) ≡ map height-in (triples-in (c .before .before .before .before .args .words .now))
+tall : (c : tie.After-column)
+    → let words = c .before .before .before .before .args .words .now in
+    take (length words / 3) (c .column .result) ≡ map height-in (triples-in words)
 tall c = heights-are _ _ (omega arith) (few (c .before .before .before .before)) (c .column .ensures)
 
-broad : (c : tie.After-column2) → take (length (c .before .before .before .before .before .before .before .before .before .before .args .words .now) / 3) (c .column2 .result) ≡ map width-in (triples-in (c .before .before .before .before .before .before .before .before .before .before .args .words .now))
-broad c = widths-are _ _ (omega arith) (few (c .before .before .before .before .before .before .before .before .before .before)) (c .column2 .ensures)
+broad : (c : tie.After-column2)
+    → let words = c .before .before .before .before .before .before .before .before .before .before .args .words .now in
+    take (length words / 3) (c .column2 .result) ≡ map width-in (triples-in words)
+broad c =
+    let start = c .before .before .before .before .before .before .before .before .before .before in
+    widths-are _ _ (omega arith) (few start) (c .column2 .ensures)
 
-large : (c : tie.After-column3) → take (length (c .before .before .before .before .before .before .before .before .before .before .before .before .before .before .before .before .args .words .now) / 3) (c .column3 .result) ≡ map area-in (triples-in (c .before .before .before .before .before .before .before .before .before .before .before .before .before .before .before .before .args .words .now))
-large c = areas-are _ _ (omega arith) (few (c .before .before .before .before .before .before .before .before .before .before .before .before .before .before .before .before)) (c .column3 .ensures)
+large : (c : tie.After-column3)
+    → let words = c .before .before .before .before .before .before .before .before .before .before .before .before .before .before .before .before .args .words .now in
+    take (length words / 3) (c .column3 .result) ≡ map area-in (triples-in words)
+large c =
+    let start = c .before .before .before .before .before .before .before .before .before .before .before .before .before .before .before .before in
+    areas-are _ _ (omega arith) (few start) (c .column3 .ensures)
 
 column-requires : tie.Need-column-requires
 column-requires c κs = (few (c .before .before .before), omega arith)
@@ -36,7 +47,10 @@ slice-aggregate-lower-by : tie.Need-slice-aggregate-lower-by
 slice-aggregate-lower-by c = sym (length-take-le _ _ (omega (arith, few (c .before .before .before .before .before))))
 
 lower-by-requires : tie.Need-lower-by-requires
-lower-by-requires c κs = heights-asked _ ((c .before .before .before .before .before .before) .pre .1) ((c .before .before .before .before .before .before) .pre .0) _ (tall (c .before .before))
+lower-by-requires c κs =
+    let at-column = c .before .before in
+    let start = at-column .before .before .before .before in
+    heights-asked _ (start .pre .1) (start .pre .0) _ (tall at-column)
 
 column-requires-2 : tie.Need-column-requires-2
 column-requires-2 c κs = (few (c .before .before .before .before .before .before .before .before .before), omega arith)
@@ -45,22 +59,38 @@ array-share-prefix-widths : tie.Need-array-share-prefix-widths
 array-share-prefix-widths c = omega (arith, few (c .before .before .before .before .before .before .before .before .before .before))
 
 slice-aggregate-lower-by-2 : tie.Need-slice-aggregate-lower-by-2
-slice-aggregate-lower-by-2 c = sym (length-take-le _ _ (omega (arith, few (c .before .before .before .before .before .before .before .before .before .before .before))))
+slice-aggregate-lower-by-2 c =
+    let start = c .before .before .before .before .before .before .before .before .before .before .before in
+    sym (length-take-le _ _ (omega (arith, few start)))
 
 lower-by-requires-2 : tie.Need-lower-by-requires-2
-lower-by-requires-2 c κs = widths-asked _ ((c .before .before .before .before .before .before .before .before .before .before .before .before) .pre .1) (c .before .before .before .before .before .lower-by .ensures .flooded) _ (broad (c .before .before))
+lower-by-requires-2 c κs =
+    let at-column = c .before .before in
+    let at-lower-by = at-column .before .before .before in
+    let start = at-lower-by .before .before .before .before .before .before .before in
+    widths-asked _ (start .pre .1) (at-lower-by .lower-by .ensures .flooded) _ (broad at-column)
 
 column-requires-3 : tie.Need-column-requires-3
-column-requires-3 c κs = (few (c .before .before .before .before .before .before .before .before .before .before .before .before .before .before .before), omega arith)
+column-requires-3 c κs =
+    let start = c .before .before .before .before .before .before .before .before .before .before .before .before .before .before .before in
+    (few start, omega arith)
 
 array-share-prefix-areas : tie.Need-array-share-prefix-areas
-array-share-prefix-areas c = omega (arith, few (c .before .before .before .before .before .before .before .before .before .before .before .before .before .before .before .before))
+array-share-prefix-areas c =
+    let start = c .before .before .before .before .before .before .before .before .before .before .before .before .before .before .before .before in
+    omega (arith, few start)
 
 slice-aggregate-lower-by-3 : tie.Need-slice-aggregate-lower-by-3
-slice-aggregate-lower-by-3 c = sym (length-take-le _ _ (omega (arith, few (c .before .before .before .before .before .before .before .before .before .before .before .before .before .before .before .before .before))))
+slice-aggregate-lower-by-3 c =
+    let start = c .before .before .before .before .before .before .before .before .before .before .before .before .before .before .before .before .before in
+    sym (length-take-le _ _ (omega (arith, few start)))
 
 lower-by-requires-3 : tie.Need-lower-by-requires-3
-lower-by-requires-3 c κs = areas-asked _ ((c .before .before .before .before .before .before .before .before .before .before .before .before .before .before .before .before .before .before) .pre .1) (c .before .before .before .before .before .lower-by2 .ensures .flooded) _ (large (c .before .before))
+lower-by-requires-3 c κs =
+    let at-column = c .before .before in
+    let at-lower-by2 = at-column .before .before .before in
+    let start = at-lower-by2 .before .before .before .before .before .before .before .before .before .before .before .before .before in
+    areas-asked _ (start .pre .1) (at-lower-by2 .lower-by2 .ensures .flooded) _ (large at-column)
 
 same-length : tie.Need-same-length
 same-length c = search needs

@@ -36,7 +36,10 @@ same-length : tie.Need-same-length
 same-length c = search needs
 
 returns : tie.Need-returns
-returns c = started _ _ _ _ ((c .before .before .before .before .before) .pre .0) ((c .before .before .before .before .before) .pre .1 .0) (c .before .before .fill .ensures)
+returns c =
+    let at-fill = c .before .before in
+    let start = at-fill .before .before .before in
+    started _ _ _ _ (start .pre .0) (start .pre .1 .0) (at-fill .fill .ensures)
 
 pub start-places-spec : {M : Type 1} → statement M
 start-places-spec =
