@@ -89,8 +89,8 @@ static inline const char *teldruf_cause_text(uint32_t number) {
     case TELDRUF_ATTRIBUTE:
         return "attribute not 1, 2 or 3 (area, height or width)";
     case TELDRUF_STEPS:
-        return "threshold outside 1 to 1,048,577, triple of zeros or with a part above that, or step list empty, over 256, cut short or "
-               "not strictly rising";
+        return "threshold outside 1 to 1,048,577, triple of zeros or with a part above that, or step list empty, over 256, cut short, or "
+               "with a step that does not rise (of a triple no part falls and one rises)";
     case TELDRUF_WORKSPACE:
         return "workspace not 7 words a pixel";
     case TELDRUF_OUTPUT_LENGTH:

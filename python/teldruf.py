@@ -42,8 +42,8 @@ _CAUSES = {
     1: "width or height outside 1 to 4,096, or more than 1,048,576 pixels",
     2: "picture bytes not width x height",
     3: "attribute not 1, 2 or 3 (area, height or width)",
-    4: "threshold outside 1 to 1,048,577, triple of zeros or with a part above that, or step list empty, over 256, cut short or "
-       "not strictly rising",
+    4: "threshold outside 1 to 1,048,577, triple of zeros or with a part above that, or step list empty, over 256, cut short, or "
+       "with a step that does not rise (of a triple no part falls and one rises)",
     5: "workspace not 7 words a pixel",
     6: "an output or a map not one entry a pixel",
     7: "the writer's buffer shorter than the file",

@@ -16,15 +16,12 @@ use Rattle.calls.specs.Alike.{Opens-alike, Maps-alike, Combines-alike, w
 use Rattle.calls.specs.declared.Verdict.{Verdict}
 use Rattle.calls.specs.declared.Step.the-variants.{Threshold, Three}
 use Rattle.calls.specs.declared.Kind.the-variants.{Thresholds, Triples}
+use Rattle.calls.proofs.Unnamed.{area-good}
 use Rattle.calls.proofs.Steps.{step-same, threshold-judged, list-meets, list-judged}
 
 -- what a call leaves, by its verdict and what it writes
 after-same : {E : Type 0} {v v′ : Verdict} {written written′ : List E} → v ≡ v′ → written ≡ written′ → (lent : List E) → after v written lent ≡ after v′ written′ lent
 after-same {written = written} {written′ = written′} verdict same lent = rw (verdict, same) refl
-
-area-good : attribute-good 1 ≡ true
-unfolding attribute-good
-area-good = refl
 
 -- a threshold and its triple keep the same
 kept-alike : (grid : Grid) (a t : ℕ) → step-test grid (Threshold a t) ≡ step-test grid (Three (need a t))

@@ -84,9 +84,9 @@ module _ (low t : Triple) where
   unfolding no-part-falls
   height-falls k l = rw (le-leb (low .area) (t .area) k, lt-leb (low .height) (t .height) l) refl
 
-  pub width-falls : low .area ≤ t .area → low .height ≤ t .height → leb (low .width) (t .width) ≡ no-part-falls low t
+  pub widths-tell-a-fall : low .area ≤ t .area → low .height ≤ t .height → leb (low .width) (t .width) ≡ no-part-falls low t
   unfolding no-part-falls
-  width-falls k l = rw (le-leb (low .area) (t .area) k, le-leb (low .height) (t .height) l) refl
+  widths-tell-a-fall k l = rw (le-leb (low .area) (t .area) k, le-leb (low .height) (t .height) l) refl
 
   pub area-rises : low .area < t .area → true ≡ some-part-rises low t
   unfolding some-part-rises
@@ -96,9 +96,9 @@ module _ (low t : Triple) where
   unfolding some-part-rises
   height-rises k l = rw (le-ltb (low .area) (t .area) k, lt-ltb (low .height) (t .height) l) refl
 
-  pub width-rises : t .area ≤ low .area → t .height ≤ low .height → ltb (low .width) (t .width) ≡ some-part-rises low t
+  pub widths-tell-a-rise : t .area ≤ low .area → t .height ≤ low .height → ltb (low .width) (t .width) ≡ some-part-rises low t
   unfolding some-part-rises
-  width-rises k l = rw (le-ltb (low .area) (t .area) k, le-ltb (low .height) (t .height) l) refl
+  widths-tell-a-rise k l = rw (le-ltb (low .area) (t .area) k, le-ltb (low .height) (t .height) l) refl
 
   -- whether it may follow, by the three tests
   pub part-too-large : parts-good t ≡ false → false ≡ may-follow low t

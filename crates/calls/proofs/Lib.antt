@@ -5,6 +5,7 @@ pub mod Frame
 pub mod Reversed
 pub mod Combined
 pub mod RootToLeaf
+pub mod Unnamed
 pub mod Alike
 pub mod Judging
 pub mod Answers

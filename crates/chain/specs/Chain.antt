@@ -67,7 +67,7 @@ accepted-steps given (call ∷ rest) =
     let later : List Step = accepted-steps (handed-on given call) rest in
     cond (accepted given call) (call .step ∷ later) later
 
--- the threshold of a step. No call of a chain of one attribute is accepted with a triple: 0 stands for it.
+-- the threshold of a step. No call of a chain of one attribute is accepted with a triple: 0 stands for it, and any number would do.
 abbrev pub step-threshold : Step → ℕ
 step-threshold (Threshold a t) = t
 step-threshold (Three t) = 0

@@ -146,7 +146,7 @@ module _ {grid : Grid} {step : Step} {picture ws output : List ℕ} (asks : Open
 abbrev pub Opens : Grid → Step → List ℕ → List ℕ → List ℕ → Type 0
 Opens grid step picture ws output = (ws ≡ record-of grid (step-attribute step) picture) × (output ≡ opened-picture grid (step-test grid step) picture)
 
-pub opens-by : (grid : Grid) (picture : List ℕ) {step kind : Step} {ws output : List ℕ} → step ≡ kind → Opens grid kind picture ws output → Opens grid step picture ws output
+pub opens-by : (grid : Grid) (picture : List ℕ) {step same : Step} {ws output : List ℕ} → step ≡ same → Opens grid same picture ws output → Opens grid step picture ws output
 opens-by grid picture {ws = ws} {output = output} is done = subst (λ (s : Step). Opens grid s picture ws output) (sym is) done
 
 -- what holds of the answer, the workspace and the output after a call

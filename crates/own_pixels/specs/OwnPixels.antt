@@ -46,14 +46,16 @@ pub record Gatherable (a q k own : ℕ) (words : List ℕ) : Type 0 where
 abbrev pub gathered-at : ℕ → ℕ → ℕ → ℕ → List ℕ → List ℕ
 gathered-at a q k own words = set (set words (3 * k) q) (3 * k + 2) (combined a (getD words (3 * k + 2) 0) own)
 
--- the lowest own pixel of each of m nodes, and the accumulator of what is seen of its own pixels
-pub record Seen (grid : Grid) (a n m : ℕ) (ws ws' : List ℕ) : Type 0 where
+-- the lowest own pixel of each of m nodes, and the accumulator of its own pixels, where a pixel's is the value
+pub record Gathered-by (value : ℕ → ℕ) (a n m : ℕ) (ws ws' : List ℕ) : Type 0 where
   pub kept : Kept n m ws ws'
   pub lowest : (k : ℕ) → k < m → lowest-of n ws' k ≡ first-in n (numbered ws k)
-  pub held : (k : ℕ) → k < m → held-of n ws' k ≡ gathered a n (seen grid a) (numbered ws k)
+  pub held : (k : ℕ) → k < m → held-of n ws' k ≡ gathered a n value (numbered ws k)
 
--- the lowest own pixel of each of m nodes, and the accumulator of its own pixels
-pub record Owned (grid : Grid) (a n m : ℕ) (ws ws' : List ℕ) : Type 0 where
-  pub kept : Kept n m ws ws'
-  pub lowest : (k : ℕ) → k < m → lowest-of n ws' k ≡ first-in n (numbered ws k)
-  pub held : (k : ℕ) → k < m → held-of n ws' k ≡ gathered a n (single grid a) (numbered ws k)
+-- by what is seen of each pixel, before the frame is noted
+abbrev pub Seen : Grid → ℕ → ℕ → ℕ → List ℕ → List ℕ → Type 0
+Seen grid a n m ws ws' = Gathered-by (seen grid a) a n m ws ws'
+
+-- and after
+abbrev pub Owned : Grid → ℕ → ℕ → ℕ → List ℕ → List ℕ → Type 0
+Owned grid a n m ws ws' = Gathered-by (single grid a) a n m ws ws'

@@ -23,7 +23,7 @@ pub record Lowered-to (n k : ℕ) (steps ws ws' : List ℕ) : Type 0 where
 
 pub lower-start : {n : ℕ} {steps ws : List ℕ} → Lowered-to n 0 steps ws ws
 lower-start = record {
-  below = record { words = refl; front = λ x l. refl; back = λ x l. refl; lowered = λ k l. absurd (omega arith) };
+  below = record { outside = record { words = refl; front = λ x l. refl; back = λ x l. refl }; lowered = λ k l. absurd (omega arith) };
   rest = λ j l. refl;
 }
 
@@ -36,10 +36,10 @@ module _ {n nodes k : ℕ} {steps ws ws' : List ℕ} (ready : Lowerable n nodes 
   -- the words by which the turn goes are those at the start
   word-is : word ≡ min (place-at n ws k) (places-before (held-of n ws k) steps)
   word-is =
-      chooses ∙ rw (finds, prog .rest k (omega arith), prog .below .back (3 * n + 3 * k + 2) (omega arith)) refl
+      chooses ∙ rw (finds, prog .rest k (omega arith), prog .below .outside .back (3 * n + 3 * k + 2) (omega arith)) refl
 
   here : place-at n left k ≡ word
-  here = getD-set-same ws' (2 * n + k) word 0 (omega (arith, prog .below .words, ready .words, ready .few))
+  here = getD-set-same ws' (2 * n + k) word 0 (omega (arith, prog .below .outside .words, ready .words, ready .few))
 
   there : (x : ℕ) → (x ≡ 2 * n + k → ⊥) → getD left x 0 ≡ getD ws' x 0
   there x off = getD-set-other ws' (2 * n + k) x word 0 off
@@ -54,9 +54,11 @@ module _ {n nodes k : ℕ} {steps ws ws' : List ℕ} (ready : Lowerable n nodes 
   pub lower-more : Lowered-to n (k + 1) steps ws left
   lower-more = record {
     below = record {
-      words = length-set ws' (2 * n + k) word ∙ prog .below .words;
-      front = λ x l. there x (λ e. omega arith) ∙ prog .below .front x l;
-      back = λ x l. there x (λ e. omega (arith, ready .few)) ∙ prog .below .back x l;
+      outside = record {
+        words = length-set ws' (2 * n + k) word ∙ prog .below .outside .words;
+        front = λ x l. there x (λ e. omega arith) ∙ prog .below .outside .front x l;
+        back = λ x l. there x (λ e. omega (arith, ready .few)) ∙ prog .below .outside .back x l;
+      };
       lowered = lowered-now;
     };
     rest = λ j l. there (2 * n + j) (λ e. omega arith) ∙ prog .rest j (omega arith);
@@ -65,8 +67,6 @@ module _ {n nodes k : ℕ} {steps ws ws' : List ℕ} (ready : Lowerable n nodes 
 -- at the end
 pub lower-end : {n nodes k : ℕ} {steps ws ws' : List ℕ} → nodes ≤ k → Lowered-to n k steps ws ws' → Lowered n nodes steps ws ws'
 lower-end most prog = record {
-  words = prog .below .words;
-  front = prog .below .front;
-  back = prog .below .back;
+  outside = prog .below .outside;
   lowered = λ j l. prog .below .lowered j (omega arith);
 }

@@ -25,10 +25,14 @@ pub record Lowerable (n nodes : ℕ) (steps ws : List ℕ) : Type 0 where
   pub small : length steps ≤ most-steps
   pub rise : not-falling 0 steps ≡ true
 
--- the place word of each node is the least of what it was and how many thresholds the attribute that it holds outlasts; outside part 3
--- nothing has changed
-pub record Lowered (n nodes : ℕ) (steps ws ws' : List ℕ) : Type 0 where
+-- nothing outside the third of the parts of n words has changed
+pub record Outside (n : ℕ) (ws ws' : List ℕ) : Type 0 where
   pub words : length ws' ≡ length ws
   pub front : (x : ℕ) → x < 2 * n → getD ws' x 0 ≡ getD ws x 0
   pub back : (x : ℕ) → 3 * n ≤ x → getD ws' x 0 ≡ getD ws x 0
+
+-- the place word of each node is the least of what it was and how many thresholds the attribute that it holds outlasts; outside part 3
+-- nothing has changed
+pub record Lowered (n nodes : ℕ) (steps ws ws' : List ℕ) : Type 0 where
+  pub outside : Outside n ws ws'
   pub lowered : (k : ℕ) → k < nodes → place-at n ws' k ≡ min (place-at n ws k) (places-before (held-of n ws k) steps)

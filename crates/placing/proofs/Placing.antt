@@ -29,7 +29,7 @@ use Rattle.levels.specs.Workspace.{Sized, number-at, closed-of, drop-of, lowest
 use Rattle.numbers.proofs.Same.{numbered-same, nodes-same}
 use Rattle.parts.specs.Parts.{filled}
 use Rattle.parts.proofs.Parts.{lent, returned, part-filled, filled-long, filled-before, filled-inside, filled-after}
-use Rattle.places.specs.Places.{place-at, Lowerable, Lowered}
+use Rattle.places.specs.Places.{place-at, Outside, Lowerable, Lowered}
 use Rattle.calls.specs.Steps.{triples-in, list-tests, list-attribute}
 use Rattle.calls.specs.Judging.{steps-good, triples-good, list-good}
 use Rattle.calls.specs.declared.Kind.{Kind}
@@ -49,22 +49,20 @@ started n count m ws size few {part} all =
     let low : 2 * n ≤ 2 * n + m = omega arith in
     let is : returned (2 * n) (2 * n + m) ws part ≡ filled (2 * n) (2 * n + m) count ws = part-filled (2 * n) (2 * n + m) count ws low high refl all in
     record {
-      words = ap length is ∙ filled-long (2 * n) (2 * n + m) count ws low high;
-      front = λ x b. ap (λ (l : List ℕ). getD l x 0) is ∙ filled-before (2 * n) (2 * n + m) count ws low high x b;
-      back =
-          λ x b.
-          let k : ℕ = x - (2 * n + m) in
-          let at : 2 * n + m + k ≡ x = omega arith in
-          rw (← at) (ap (λ (l : List ℕ). getD l (2 * n + m + k) 0) is ∙ filled-after (2 * n) (2 * n + m) count ws low high k);
+      outside =
+          record {
+            words = ap length is ∙ filled-long (2 * n) (2 * n + m) count ws low high;
+            front = λ x b. ap (λ (l : List ℕ). getD l x 0) is ∙ filled-before (2 * n) (2 * n + m) count ws low high x b;
+            back =
+                λ x b.
+                let k : ℕ = x - (2 * n + m) in
+                let at : 2 * n + m + k ≡ x = omega arith in
+                rw (← at) (ap (λ (l : List ℕ). getD l (2 * n + m + k) 0) is ∙ filled-after (2 * n) (2 * n + m) count ws low high k);
+          };
       places = λ k b. ap (λ (l : List ℕ). getD l (2 * n + k) 0) is ∙ filled-inside (2 * n) (2 * n + m) count ws low high k (omega arith);
     }
 
--- the words outside the third part are as they were
-record Outside (n : ℕ) (ws ws' : List ℕ) : Type 0 where
-  pub words : length ws' ≡ length ws
-  pub front : (x : ℕ) → x < 2 * n → getD ws' x 0 ≡ getD ws x 0
-  pub back : (x : ℕ) → 3 * n ≤ x → getD ws' x 0 ≡ getD ws x 0
-
+-- where the words outside the third part are as they were
 module _ {n : ℕ} {ws ws' : List ℕ} (kept : Outside n ws ws') where
   same-number : (q : ℕ) → q < n → number-at ws' q ≡ number-at ws q
   same-number q b = kept .front q (omega arith)
@@ -116,11 +114,8 @@ node-same n adj symm g q b =
 
 -- before any list of thresholds
 module _ {grid : Grid} {picture ws ws' : List ℕ} {count m : ℕ} (S : Started (length picture) count m ws ws') (F : Flooded grid picture ws m) where
-  same-outside : Outside (length picture) ws ws'
-  same-outside = record { words = S .words; front = S .front; back = S .back }
-
   pub start-flooded : Flooded grid picture ws' m
-  start-flooded = flooded-still same-outside F
+  start-flooded = flooded-still (S .outside) F
 
   pub start-limited : Limited grid picture (λ (s : Positions). count) ws'
   start-limited q b = S .places (number-at ws' q) (start-flooded .numbers .within q b)
@@ -137,16 +132,13 @@ module _ {grid : Grid} {a m : ℕ} {picture lent ws : List ℕ} (M : Measured gr
       }
 
   module _ {steps ws' : List ℕ} (L : Lowered (length picture) m steps ws ws') where
-    outside : Outside (length picture) ws ws'
-    outside = record { words = L .words; front = L .front; back = L .back }
-
     pub lowered-by : Lowered-by grid a picture steps m lent ws'
     lowered-by =
         let k : ℕ = length picture in
         let N = M .noded .nodes in
         record {
-          noded = noded-still outside (M .noded);
-          flooded = flooded-still outside (M .flooded);
+          noded = noded-still (L .outside) (M .noded);
+          flooded = flooded-still (L .outside) (M .flooded);
           limits =
               λ limit limited q b.
               let j : ℕ = number-at ws q in
@@ -159,7 +151,7 @@ module _ {grid : Grid} {a m : ℕ} {picture lent ws : List ℕ} (M : Measured gr
               N .attributes j inside
               ∙ ap (λ (p : ℕ). attribute grid a (member (node k (adjacent grid) (grey picture) p))) (N .representatives q b)
               ∙ ap (λ (l : List Bool). attribute grid a (member l)) (node-same k (adjacent grid) (adjacent-symmetric grid) (grey picture) q b) in
-              ap (place-at k ws') (same-number outside q b) ∙ L .lowered j inside ∙ rw (before, holds) refl;
+              ap (place-at k ws') (same-number (L .outside) q b) ∙ L .lowered j inside ∙ rw (before, holds) refl;
         }
 
 -- a part of the triples is a list of thresholds

@@ -1,5 +1,5 @@
 -- What placing the nodes along a step list asks and leaves, on the words that it is lent.
-use Prim.Native.Nat.{ℕ, _+_, _*_, _/_, _≤_, _<_, min}
+use Prim.Native.Nat.{ℕ, _+_, _*_, _/_, _<_, min}
 use mathlib.Core.List.{List}
 use mathlib.Core.Path.{_≡_}
 use lib.ListN.{getD, length}
@@ -15,18 +15,16 @@ use Rattle.calls.specs.Steps.{list-tests, list-attribute}
 use Rattle.calls.specs.declared.Kind.{Kind}
 use Rattle.calls.specs.declared.Kind.the-variants.{Triples}
 use Rattle.levels.specs.Workspace.{number-at, lowest-of}
-use Rattle.places.specs.Places.{place-at}
+use Rattle.places.specs.Places.{place-at, Outside}
 use Rattle.max_tree.specs.Building.{Flooded, Noded}
 
 -- entry i has the given part of triple i
 abbrev pub Column : ℕ → List ℕ → List ℕ → Type 0
 Column part words entries = (i : ℕ) → i < length words / 3 → getD entries i 0 ≡ getD words (3 * i + part) 0
 
--- each of m nodes has the number of steps for its place; the words outside the third part are as they were
+-- each of m nodes has the number of steps for its place
 pub record Started (n count m : ℕ) (ws ws' : List ℕ) : Type 0 where
-  pub words : length ws' ≡ length ws
-  pub front : (x : ℕ) → x < 2 * n → getD ws' x 0 ≡ getD ws x 0
-  pub back : (x : ℕ) → 3 * n ≤ x → getD ws' x 0 ≡ getD ws x 0
+  pub outside : Outside n ws ws'
   pub places : (k : ℕ) → k < m → place-at n ws' k ≡ count
 
 -- the place of each pixel's node is a limit that its pixels set

@@ -40,7 +40,8 @@ own-attribute call p = node-attribute (call .grid) (list-attribute (call .kind))
 abbrev pub Below-root : Map-call → ℕ → Type 0
 Below-root call p = least-grey (pixels (call .grid)) (grey (call .picture)) < grey (call .picture) p
 
--- thresholds of one attribute: "for steps 1, 2, 3 and on if every node but the root has an attribute below the last step". What touches the frame has 1,048,577 for each
+-- thresholds of one attribute,
+-- "for steps 1, 2, 3 and on if every node but the root has an attribute below the last step". What touches the frame has 1,048,577 for each
 -- attribute, so only the root touches it then.
 pub record Counted (call : Map-call) (m : ℕ) : Type 0 where
   pub kind : (a : ℕ) × (call .kind ≡ Thresholds a)

@@ -8,6 +8,7 @@ use cases::table;
 use grid::Grid;
 use grid::Triple;
 
+// With fewer than three words, which no line has, no call is made.
 fn opened(
     picture: &[u8],
     grid: Grid,
