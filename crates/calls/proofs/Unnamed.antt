@@ -49,15 +49,28 @@ other apart = inl (λ e. apart (ap number-of e))
 pub open-unnamed : (picture : List ℕ) (grid : Grid) (t : Triple) (workspace output : List ℕ)
     → open-verdict (opening-of picture grid (Three t) workspace output) ≡ Refused Attribute → ⊥
 open-unnamed picture grid t workspace output =
-    never-for-it (open-tests (opening-of picture grid (Three t) workspace output))
-    (other (λ e. omega arith),
-    (other (λ e. omega arith),
-    (inr area-good,
-    (other (λ e. omega arith),
-    (other (λ e. omega arith),
-    (other (λ e. omega arith),
-    (other (λ e. omega arith),
-    tt)))))))
+    never-for-it (open-tests (opening-of picture grid (Three t) workspace output)) (
+      other (λ e. omega arith),
+      (
+        other (λ e. omega arith),
+        (
+          inr area-good,
+          (
+            other (λ e. omega arith),
+            (
+              other (λ e. omega arith),
+              (
+                other (λ e. omega arith),
+                (
+                  other (λ e. omega arith),
+                  tt,
+                ),
+              ),
+            ),
+          ),
+        ),
+      ),
+    )
 
 module _ (picture : List ℕ) (grid : Grid) (words : List ℕ) (gap : ℕ) (workspace residue index : List ℕ) where
   abbrev call : Map-call
@@ -65,29 +78,65 @@ module _ (picture : List ℕ) (grid : Grid) (words : List ℕ) (gap : ℕ) (work
 
   pub map-unnamed : map-verdict call ≡ Refused Attribute → ⊥
   map-unnamed =
-      never-for-it (map-tests call)
-      (other (λ e. omega arith),
-      (other (λ e. omega arith),
-      (inr area-good,
-      (other (λ e. omega arith),
-      (other (λ e. omega arith),
-      (other (λ e. omega arith),
-      (other (λ e. omega arith),
-      (other (λ e. omega arith),
-      (other (λ e. omega arith),
-      tt)))))))))
+      never-for-it (map-tests call) (
+        other (λ e. omega arith),
+        (
+          other (λ e. omega arith),
+          (
+            inr area-good,
+            (
+              other (λ e. omega arith),
+              (
+                other (λ e. omega arith),
+                (
+                  other (λ e. omega arith),
+                  (
+                    other (λ e. omega arith),
+                    (
+                      other (λ e. omega arith),
+                      (
+                        other (λ e. omega arith),
+                        tt,
+                      ),
+                    ),
+                  ),
+                ),
+              ),
+            ),
+          ),
+        ),
+      )
 
   pub combined-unnamed : (contrast : List ℤ) → combined-verdict call contrast ≡ Refused Attribute → ⊥
   combined-unnamed contrast =
-      never-for-it (combined-tests call contrast)
-      (other (λ e. omega arith),
-      (other (λ e. omega arith),
-      (inr area-good,
-      (other (λ e. omega arith),
-      (other (λ e. omega arith),
-      (other (λ e. omega arith),
-      (other (λ e. omega arith),
-      (other (λ e. omega arith),
-      (other (λ e. omega arith),
-      (other (λ e. omega arith),
-      tt))))))))))
+      never-for-it (combined-tests call contrast) (
+        other (λ e. omega arith),
+        (
+          other (λ e. omega arith),
+          (
+            inr area-good,
+            (
+              other (λ e. omega arith),
+              (
+                other (λ e. omega arith),
+                (
+                  other (λ e. omega arith),
+                  (
+                    other (λ e. omega arith),
+                    (
+                      other (λ e. omega arith),
+                      (
+                        other (λ e. omega arith),
+                        (
+                          other (λ e. omega arith),
+                          tt,
+                        ),
+                      ),
+                    ),
+                  ),
+                ),
+              ),
+            ),
+          ),
+        ),
+      )
