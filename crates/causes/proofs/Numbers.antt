@@ -6,12 +6,12 @@ use native.Mathlib.Omega.{arith}
 use lib.ListN.{getD}
 use Rattle.causes.specs.Causes.{number-of}
 use Rattle.causes.specs.declared.Cause.{Cause}
-use Rattle.causes.specs.declared.Cause.the-variants.{Sides, PictureLength, Attribute, Steps, Workspace, Output, Buffer, Sign, Header, Maximum, RasterLength, Sample, StepsFile, TooLarge, NotRead, View, Neighbours, Gap}
+use Rattle.causes.specs.declared.Cause.the-variants.{Sides, PictureLength, Attribute, Steps, Workspace, Output, Buffer, Sign, Header, Maximum, RasterLength, Sample, StepsFile, TooLarge, NotRead, View, Neighbours, PictureNumber, Gap}
 
--- the causes in the order of their numbers, from 1; no cause has the number 18, and any stands there
+-- the causes in the order of their numbers, from 1
 abbrev in-order : List Cause
 in-order =
-    Sides ∷ PictureLength ∷ Attribute ∷ Steps ∷ Workspace ∷ Output ∷ Buffer ∷ Sign ∷ Header ∷ Maximum ∷ RasterLength ∷ Sample ∷ StepsFile ∷ TooLarge ∷ NotRead ∷ View ∷ Neighbours ∷ Sides ∷ Gap ∷ []
+    Sides ∷ PictureLength ∷ Attribute ∷ Steps ∷ Workspace ∷ Output ∷ Buffer ∷ Sign ∷ Header ∷ Maximum ∷ RasterLength ∷ Sample ∷ StepsFile ∷ TooLarge ∷ NotRead ∷ View ∷ Neighbours ∷ PictureNumber ∷ Gap ∷ []
 
 abbrev cause-of : ℕ → Cause
 cause-of number = getD in-order (number - 1) Sides
@@ -34,6 +34,7 @@ cause-back TooLarge = refl
 cause-back NotRead = refl
 cause-back View = refl
 cause-back Neighbours = refl
+cause-back PictureNumber = refl
 cause-back Gap = refl
 
 pub number-determined : (c d : Cause) → number-of c ≡ number-of d → c ≡ d
@@ -58,4 +59,5 @@ number-positive TooLarge = omega arith
 number-positive NotRead = omega arith
 number-positive View = omega arith
 number-positive Neighbours = omega arith
+number-positive PictureNumber = omega arith
 number-positive Gap = omega arith

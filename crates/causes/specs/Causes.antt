@@ -2,7 +2,7 @@
 use Prim.Native.Nat.{ℕ}
 use mathlib.Core.Bool.{Bool, cond}
 use Rattle.causes.specs.declared.Cause.{Cause}
-use Rattle.causes.specs.declared.Cause.the-variants.{Sides, PictureLength, Attribute, Steps, Workspace, Output, Buffer, Sign, Header, Maximum, RasterLength, Sample, StepsFile, TooLarge, NotRead, View, Neighbours, Gap}
+use Rattle.causes.specs.declared.Cause.the-variants.{Sides, PictureLength, Attribute, Steps, Workspace, Output, Buffer, Sign, Header, Maximum, RasterLength, Sample, StepsFile, TooLarge, NotRead, View, Neighbours, PictureNumber, Gap}
 
 abbrev pub number-of : Cause → ℕ
 -- width or height outside 1..4,096, or n above 1,048,576
@@ -19,13 +19,13 @@ number-of Workspace = 5
 number-of Output = 6
 -- writer's buffer below the bytes needed
 number-of Buffer = 7
--- file does not start with P5
+-- no P5 where the file, or a further picture of it, starts
 number-of Sign = 8
 -- header broken or ended early
 number-of Header = 9
 -- maximum 0 or above 255
 number-of Maximum = 10
--- raster bytes not n
+-- raster bytes fewer than n
 number-of RasterLength = 11
 -- a sample above the maximum
 number-of Sample = 12
@@ -39,6 +39,8 @@ number-of NotRead = 15
 number-of View = 16
 -- neighbourhood neither 4 nor 8
 number-of Neighbours = 17
+-- picture number 0 or above the count
+number-of PictureNumber = 18
 -- gap above 256
 number-of Gap = 19
 

@@ -34,6 +34,7 @@ pub enum Cause {
     NotRead,
     View,
     Neighbours,
+    PictureNumber,
     Gap,
 }
 
@@ -58,6 +59,7 @@ pub fn number(cause: Cause) -> u32
         Cause::NotRead => 15,
         Cause::View => 16,
         Cause::Neighbours => 17,
+        Cause::PictureNumber => 18,
         Cause::Gap => 19,
     }
 }

@@ -2,3 +2,4 @@ pub mod Moves
 pub mod Scan
 pub mod Readers
 pub mod Reading
+pub mod Whole

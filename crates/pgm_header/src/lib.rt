@@ -12,6 +12,8 @@ pub mod reader;
 // "P5"
 pub const MAGIC: [u8; 2] = [80, 53];
 
+pub const MAGIC_LENGTH: usize = 2;
+
 // A number has at most this many digits.
 const MOST_DIGITS: usize = 7;
 

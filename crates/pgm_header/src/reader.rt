@@ -1,11 +1,11 @@
-// A reader: it keeps the file's bytes and its own position together. One reader goes from header to raster: it is opened once, its
-// header is read from its position on, and it is handed on at the position after the header, from where the raster is taken. Each
-// function over it takes it apart and leaves the work to a function on the slice and the number; `header_of`, and `raster_after_sign`
-// of the crate pgm_read, have plain parameters and are for every other caller.
+// A reader: it keeps the file's bytes and its own position together. It is opened at each picture of the file in turn, right after the
+// sign, and its header is read from its position on. One reader goes from header to raster: it is handed on at the position after the
+// header, from where the raster is taken. Each function over it takes it apart and leaves the work to a function on the slice and the
+// number; `header_of`, and `raster_after_sign` of the crate pgm_read, have plain parameters and are for every other caller.
 ghost use mathlib.Core.Path.{_≡_};
 ghost use Prim.Native.Nat.{_+_, _≤_};
 ghost use lib.ListN.{length, take, drop};
-ghost use Rattle.pgm_header.specs.Header.{sign, header-at};
+ghost use Rattle.pgm_header.specs.Header.{header-at};
 use crate::Header;
 
 pub struct Reader<'a> {
@@ -13,11 +13,11 @@ pub struct Reader<'a> {
     pub at: usize,
 }
 
-// A reader that stands right after the sign.
-pub fn opened<'a>(file: &'a [u8]) -> Reader<'a>
-    ensures reader { λ r. ⌜ (r .file ≡ file .entry) × (r .at ≡ length sign) ⌝ }
+// A reader of a file that stands at a position.
+pub fn opened<'a>(file: &'a [u8], at: usize) -> Reader<'a>
+    ensures reader { λ r. ⌜ (r .file ≡ file .entry) × (r .at ≡ at) ⌝ }
 {
-    Reader { file, at: 2 }
+    Reader { file, at }
 }
 
 // The header from the reader's position on.
@@ -51,9 +51,9 @@ pub fn taken<'a>(r: Reader<'a>, n: usize) -> &'a [u8]
     bytes_at(r.file, r.at, n)
 }
 
-// The header of a file that starts with the sign.
-pub fn header_of(file: &[u8]) -> Header
-    ensures header { λ h. ⌜ h ≡ header-at (now (file .entry)) (length sign) ⌝ }
+// The header from a position on.
+pub fn header_of(file: &[u8], at: usize) -> Header
+    ensures header { λ h. ⌜ h ≡ header-at (now (file .entry)) at ⌝ }
 {
-    header(opened(file))
+    header(opened(file, at))
 }

@@ -15,6 +15,6 @@ found-determined (Picture w h m p) (Refused d) e = absurd (omega (arith, ap leng
 found-determined (Refused c) (Picture w h m p) e = absurd (omega (arith, ap length e))
 found-determined (Refused c) (Refused d) e = ap Refused (number-determined c d (cc e))
 
--- what a call of the reader that found f says of the file
-pub read-as : (file : List ℕ) (r f : Found) → found-numbers r ≡ found-numbers (read-answer file) → r ≡ f → read-answer file ≡ f
-read-as file r f e is = sym (found-determined r (read-answer file) e) ∙ is
+-- what a call of the reader that found f says of the file and the number
+pub read-as : (file : List ℕ) (number : ℕ) (r f : Found) → found-numbers r ≡ found-numbers (read-answer file number) → r ≡ f → read-answer file number ≡ f
+read-as file number r f e is = sym (found-determined r (read-answer file number) e) ∙ is

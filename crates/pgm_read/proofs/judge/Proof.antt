@@ -1,17 +1,16 @@
 -- `pgm_read::judge` meets its contract: the first test that fails decides. Assumes nothing.
-use Prim.Native.Nat.{_*_, _-_}
+use Prim.Native.Nat.{_+_, _*_, _-_, _≤_}
 use mathlib.Core.Path.{_≡_, _∙_, sym, ap}
 use mathlib.Core.Bool.{true}
-use lib.Dec.{eqb}
-use lib.ListN.{length, drop}
+use lib.Dec.{leb}
+use lib.ListN.{length, take, drop}
 use denote.Ref.{now}
 use borrow.Author.Needs.{needs}
 use borrow.Author.Tests.{not-true, not-false}
 use Rattle.causes.specs.Sides.{sides-fit}
-use Rattle.causes.proofs.Lists.{to-end}
 use Rattle.pgm_values.specs.Values.{maximum-fits, all-at-most}
 use Rattle.pgm_read.specs.Read.{judged}
-use Rattle.pgm_read.proofs.Judging.{judged-broken, judged-maximum, judged-sides, judged-length, judged-sample, judged-picture, some-pixels, starts-within}
+use Rattle.pgm_read.proofs.Judging.{judged-broken, judged-maximum, judged-sides, judged-length, judged-sample, judged-picture, some-pixels, ends-within, counted, part-of}
 use Rattle.pgm_read.proofs.judge.Statement.{statement}
 use Rattle.pgm_read.proofs.judge.Tie as tie
 
@@ -26,19 +25,27 @@ length-right :
     (c : tie.Else3) →
     let at-found = c .before .before .before .before .before .before .before .before in
     let v = at-found .found .given .0 in
-    eqb (length (now (at-found .before .before .before .args .file)) - v .1 .1 .1 .0) (v .0 * v .1 .0) ≡ true
+    leb (v .0 * v .1 .0) (length (now (at-found .before .before .before .args .file)) - v .1 .1 .1 .0) ≡ true
 length-right c =
-    sym (c .before .follow .ensures ∙ ap (eqb _) (c .before .before .pixels .ensures)) ∙ not-false _ (c .if3 .left)
+    counted _ _ _ _ (c .before .follow .ensures) (c .before .before .pixels .ensures) ∙ not-false _ (c .if3 .left)
 
--- the last test: the part that is lent is all that follows the header
+-- the raster's bytes are there
+raster-ends :
+    (c : tie.Else3) →
+    let at-found = c .before .before .before .before .before .before .before .before in
+    at-found .found .given .0 .1 .1 .1 .0 + c .before .before .pixels .result ≤ length (now (at-found .before .before .before .args .file))
+raster-ends c =
+    ends-within _ _ _ (some-pixels _ _ _ (sides-right (c .before .before .before)) (c .before .before .pixels .ensures)) (sym (c .before .follow .ensures) ∙ not-false _ (c .if3 .left))
+
+-- the last test: the part that is lent is the raster
 samples-tested :
     (c : tie.After-within) →
     let at-found = c .before .before .before .before .before .before .before .before .before .before in
     let v = at-found .found .given .0 in
-    c .within .result ≡ all-at-most (v .1 .1 .0) (drop (v .1 .1 .1 .0) (now (at-found .before .before .before .args .file)))
+    c .within .result ≡ all-at-most (v .1 .1 .0) (take (v .0 * v .1 .0) (drop (v .1 .1 .1 .0) (now (at-found .before .before .before .args .file))))
 samples-tested c =
     let at-found = c .before .before .before .before .before .before .before .before .before .before in
-    c .within .ensures ∙ ap (all-at-most _) (to-end (now (at-found .before .before .before .args .file)) (at-found .found .given .0 .1 .1 .1 .0))
+    c .within .ensures ∙ ap (all-at-most _) (part-of (now (at-found .before .before .before .args .file)) (at-found .found .given .0 .1 .1 .1 .0) _ _ (c .before .before .before .before .pixels .ensures))
 
 enum-known-found : tie.Need-enum-known-found
 enum-known-found c = search needs
@@ -74,19 +81,20 @@ follow-requires c κs = some-pixels _ _ _ (sides-right (c .before)) (c .pixels .
 returns-4 : tie.Need-returns-4
 returns-4 c =
     let at-sides = c .before .before .before in
-    judged-length _ _ _ _ _ (maximum-right (at-sides .before .before)) (sides-right at-sides) (sym (c .before .follow .ensures ∙ ap (eqb _) (c .before .before .pixels .ensures)) ∙ not-true _ (c .if3 .taken))
+    judged-length _ _ _ _ _ (maximum-right (at-sides .before .before)) (sides-right at-sides) (counted _ _ _ _ (c .before .follow .ensures) (c .before .before .pixels .ensures) ∙ not-true _ (c .if3 .taken))
     ∙ ap (judged _) (sym (at-sides .before .before .before .before .before .found .given .1))
 
+add-end : tie.Need-add-end
+add-end c = let ends = raster-ends c in search needs
+
 sub-within : tie.Need-sub-within
-sub-within c =
-    let at-sides = c .before .before .before in
-    starts-within _ _ _ (some-pixels _ _ _ (sides-right at-sides) (c .before .before .pixels .ensures)) (sym (c .before .follow .ensures) ∙ not-false _ (c .if3 .left))
+sub-within c = let ends = raster-ends c in search needs
 
 part-within-start : tie.Need-part-within-start
-part-within-start c = sub-within c
+part-within-start c = let ends = raster-ends c in search needs
 
 part-within-end : tie.Need-part-within-end
-part-within-end c = search needs
+part-within-end c = let ends = raster-ends c in search needs
 
 within-requires : tie.Need-within-requires
 within-requires c κs = search needs
@@ -119,6 +127,7 @@ judge-spec =
     pixels-requires
     follow-requires
     returns-4
+    add-end
     sub-within
     part-within-start
     part-within-end

@@ -1,27 +1,24 @@
--- `pgm_read::read` meets its contract. Assumes nothing.
+-- `pgm_read::read` meets its contract: it answers what was picked. Assumes nothing.
 use mathlib.Core.Path.{_∙_, sym, ap}
-use Rattle.pgm_read.specs.Read.{judged, found-numbers}
-use Rattle.pgm_read.proofs.Judging.{read-signed, read-unsigned}
+use Rattle.pgm_read.specs.Read.{found-in, found-numbers}
 use borrow.Author.Needs.{needs}
 use Rattle.pgm_read.proofs.read.Statement.{statement}
 use Rattle.pgm_read.proofs.read.Tie as tie
 
-has-sign-requires : tie.Need-has-sign-requires
-has-sign-requires c κs = search needs
+pick-requires : tie.Need-pick-requires
+pick-requires c κs = search needs
 
-header-of-requires : tie.Need-header-of-requires
-header-of-requires c κs = search needs
+enum-known-width : tie.Need-enum-known-width
+enum-known-width c = search needs
 
-judge-requires : tie.Need-judge-requires
-judge-requires c κs = search needs
+enum-known-cause : tie.Need-enum-known-cause
+enum-known-cause c = search needs
 
 returns : tie.Need-returns
-returns c =
-    ap found-numbers (c .judge .ensures ∙ ap (judged _) (c .before .header-of .ensures) ∙ read-signed _ (sym (c .before .before .before .has-sign .ensures) ∙ c .before .before .if1 .taken))
+returns c = ap found-numbers (sym (ap found-in (c .before .width .given .1)) ∙ c .before .before .before .pick .ensures .0)
 
 returns-2 : tie.Need-returns-2
-returns-2 c = ap found-numbers (read-unsigned _ (sym (c .before .has-sign .ensures) ∙ c .if1 .left))
+returns-2 c = ap found-numbers (sym (ap found-in (c .before .cause .given .1)) ∙ c .before .before .before .pick .ensures .0)
 
 pub read-spec : {M : Type 1} → statement M
-read-spec =
-    tie.close (tie.spec has-sign-requires header-of-requires judge-requires returns returns-2)
+read-spec = tie.close (tie.spec pick-requires enum-known-width enum-known-cause returns returns-2)
