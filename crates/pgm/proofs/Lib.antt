@@ -1,3 +1,6 @@
 pub mod Parts
 pub mod Shape
+pub mod Pages
+pub mod Burst
 pub mod RoundTrip
+pub mod Alone

@@ -6,22 +6,23 @@ use mathlib.Core.Bool.{Bool, true, false, not, cond}
 use mathlib.Core.List.{List, [], _∷_, _++_}
 use native.Mathlib.Nat.{zero-add, add-zero}
 use native.Mathlib.Omega.{arith}
-use lib.Dec.{eqb, leb, ltb}
+use lib.Dec.{eqb, ltb}
 use lib.ListN.{length, getD, take, drop, take-append-drop, length-drop}
 use lib.Seq.{drop-drop, drop-append-seam, getD-drop}
-use borrow.Author.Tests.{eqb-true, eqb-false, leb-true, lt-ltb, le-leb, ne-eqb}
+use borrow.Author.Tests.{eqb-true, lt-ltb, le-leb, ne-eqb}
 use Rattle.causes.proofs.Laws.{both-true}
 use Rattle.causes.proofs.Lists.{from-here}
 use Rattle.pgm_header.specs.Bytes.{is-white, is-digit, move-of, by-move, white-move, digit-move, ends-comment}
-use Rattle.pgm_header.specs.Header.{most-digits, gap-length, digit-count, decimal-value, white-at, finished-number, number-at, part-at}
+use Rattle.pgm_header.specs.Header.{most-digits, gap-length, digit-count, decimal-value, white-at, number-at, part-at}
 use Rattle.pgm.specs.Page.{GapRest, Gap, Number}
 use Rattle.pgm.specs.Page.Gap.{starts}
 use Rattle.pgm.specs.Page.GapRest.{done, white, comment, remark, newline}
 use Rattle.pgm_header.specs.declared.Move.{Move}
 use Rattle.pgm_header.specs.declared.Move.the-variants.{White, Digit, Comment, Foreign}
-use Rattle.pgm_header.specs.declared.Part.the-variants.{Value, Broken}
+use Rattle.pgm_header.specs.declared.Part.the-variants.{Value}
 use Rattle.pgm_header.proofs.Moves.{comment-35}
 use Rattle.pgm_header.proofs.Scan.{white-below, Stops, stops-at}
+use Rattle.pgm_header.proofs.Whole.{part-found}
 
 -- what a move says of the byte
 white-sorted : (w d c : Bool) → white-move (cond w White (cond d Digit (cond c Comment Foreign))) ≡ w
@@ -144,18 +145,6 @@ gap-found : (s : List ℕ) (b : ℕ) (r : List ℕ) → is-white b ≡ true → 
 unfolding gap-length
 gap-found s b r w e = rw (e, white-moves b w) (λ h. starts w (gap-front false r h))
 
--- a choice that does not come out as the other one passed its test
-pub chosen : {A : Type 0} (t : Bool) (one other : A) {answer : A} → (other ≡ answer → ⊥) → cond t one other ≡ answer → (t ≡ true) × (one ≡ answer)
-chosen true one other differs e = (refl, e)
-chosen false one other differs e = absurd (differs e)
-
-broken-differs : (number after : ℕ) → Broken ≡ Value number after → ⊥
-broken-differs number after e = let z : _≡_ {A = ℕ} 0 1 = cc in omega arith
-
-finished-found : (value count end : ℕ) (t : Bool) (number after : ℕ) → eqb count 0 ≡ t → cond t Broken (Value value end) ≡ Value number after → (1 ≤ count) × (value ≡ number) × (end ≡ after)
-finished-found value count end true number after e f = absurd (broken-differs number after f)
-finished-found value count end false number after e f = (omega (arith, eqb-false count 0 e), cc, cc)
-
 module _ (file : List ℕ) (at : ℕ) where
   pub white-here : white-at file at ≡ true → (is-white (getD file at 0) ≡ true) × (drop at file ≡ getD file at 0 ∷ drop (at + 1) file)
   white-here e =
@@ -163,29 +152,27 @@ module _ (file : List ℕ) (at : ℕ) where
       (sym (white-byte (getD file at 0)) ∙ w .1, from-here file at (white-below file at e))
 
   pub part-stands : (number after : ℕ) → part-at file at ≡ Value number after → PartAt file at number after
-  unfolding part-at number-at
   part-stands number after e =
+      let p = part-found file at number after e in
       let s : List ℕ = drop at file in
       let g : ℕ = gap-length false s in
-      let t : List ℕ = drop (at + g) file in
+      let t : List ℕ = drop (p .from) file in
       let k : ℕ = digit-count t in
-      let p = chosen (white-at file at) (number-at file (at + g)) Broken (broken-differs number after) e in
-      let n = chosen (leb k most-digits) (finished-number (decimal-value 0 t) k (at + g + k)) Broken (broken-differs number after) (p .1) in
-      let f = finished-found (decimal-value 0 t) k (at + g + k) (eqb k 0) number after refl (n .1) in
-      let w = white-here (p .0) in
+      let w = white-here (p .white) in
       let d = digit-front t in
+      let past : drop g s ≡ t = drop-drop g at file ∙ ap (λ (i : ℕ). drop i file) (sym (p .place)) in
       record {
         gap = take g s;
         digits = take k t;
         layout =
             sym (take-append-drop g s)
-            ∙ ap (λ (l : List ℕ). take g s ++ l) (drop-drop g at file ∙ sym (take-append-drop k t) ∙ rw (drop-drop k (at + g) file, f .2));
-        gap-right = gap-found s (getD file at 0) (drop (at + 1) file) (w .0) (w .1) (rw (drop-drop g at file) (f .0));
+            ∙ ap (λ (l : List ℕ). take g s ++ l) (past ∙ sym (take-append-drop k t) ∙ rw (drop-drop k (p .from) file, p .end));
+        gap-right = gap-found s (getD file at 0) (drop (at + 1) file) (w .0) (w .1) (rw past (p .some));
         number-right = record {
-          some = omega (arith, d .whole);
-          few = omega (arith, d .whole, leb-true k most-digits (n .0));
+          some = omega (arith, d .whole, p .some);
+          few = omega (arith, d .whole, p .few);
           all-digits = d .counted;
-          value = d .valued 0 ∙ f .1;
+          value = d .valued 0 ∙ p .value;
         };
       }
 

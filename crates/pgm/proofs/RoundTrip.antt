@@ -1,8 +1,10 @@
--- A picture that is written and read again is the same picture, greys and maximum. The written file has the page's shape.
-use Prim.Native.Nat.{ℕ, _*_, _-_, _^_, _≤_, _<_}
+-- Pictures that are written end to end and read again are the same pictures, greys and maximum, each by its number. A written file is a page. Assumes nothing.
+use Prim.Native.Nat.{ℕ, _+_, _*_, _-_, _^_, _≤_, _<_}
 use mathlib.Core.Path.{_≡_, refl, sym, _∙_}
 use mathlib.Core.Bool.{Bool, true, false}
-use mathlib.Core.List.{List, [], _∷_, append-nil, append-assoc}
+use mathlib.Core.List.{List, [], _∷_, _++_, append-nil, append-assoc}
+use mathlib.Core.Logic.{_⊎_}
+use native.Mathlib.Nat.{zero-add}
 use native.Mathlib.Omega.{arith}
 use lib.Dec.{ltb}
 use lib.ListN.{length, take, drop}
@@ -14,12 +16,16 @@ use Rattle.pgm_write.specs.Write.{digits-of, pgm-file, write-answer, buffer-aft
 use Rattle.pgm.specs.Page.{Number, Page}
 use Rattle.pgm.specs.Page.Gap.{starts}
 use Rattle.pgm.specs.Page.GapRest.{done}
-use Rattle.pgm_read.specs.declared.Found.the-variants.{Picture}
+use Rattle.pgm.specs.Burst.{Pages, Written}
+use Rattle.pgm.specs.Burst.Pages.{none as no-pages, then as one-page}
+use Rattle.pgm.specs.Burst.Written.{none, then}
+use Rattle.causes.specs.declared.Cause.the-variants.{PictureNumber}
+use Rattle.pgm_read.specs.declared.Found.the-variants.{Picture, Refused}
 use Rattle.pgm_write.specs.declared.Written.the-variants.{Bytes}
 use Rattle.pgm_write.proofs.Decimals.{count-decimal, value-decimal, length-decimal, length-short, length-long}
 use Rattle.pgm_write.proofs.Files.{file-length}
 use Rattle.pgm_write.proofs.Judging.{Writable, writable-is, Fields, fields-fit}
-use Rattle.pgm.proofs.Shape.{page-accepted, page-raster}
+use Rattle.pgm.proofs.Burst.{page-accepted, beyond}
 
 some-digit : (x : ℕ) → x < 10 ^ most-digits → 1 ≤ length (digits-of x)
 some-digit x fits = go (ltb x 10) refl
@@ -70,8 +76,41 @@ unfolding buffer-after
 written-file picture width height maximum buffer total e =
     rw e (take-at (pgm-file picture width height maximum) (drop total buffer) total (sym (writable-is picture width height maximum (length buffer) total e .total-right)))
 
--- "Round trip covers greys and maximum."
-pub round-trip : (picture : List ℕ) (width height maximum : ℕ) (buffer : List ℕ) (total : ℕ) → write-answer picture width height maximum (length buffer) ≡ Bytes total → let file : List ℕ = take total (buffer-after picture width height maximum buffer) in (read-answer file ≡ Picture width height maximum (total - width * height)) × (raster-of file ≡ picture)
-round-trip picture width height maximum buffer total e =
-    let p = file-page (writable-is picture width height maximum (length buffer) total e) in
-    rw (written-file picture width height maximum buffer total e) (page-accepted p, page-raster p)
+module _ (picture : List ℕ) (width height maximum : ℕ) (buffer : List ℕ) (total : ℕ) (e : write-answer picture width height maximum (length buffer) ≡ Bytes total) where
+  written-page : Page (take total (buffer-after picture width height maximum buffer)) width height maximum (total - width * height) picture
+  written-page =
+      rw (written-file picture width height maximum buffer total e) (file-page (writable-is picture width height maximum (length buffer) total e))
+
+-- what was written in turn is a sequence of pages
+pub written-pages : {count : ℕ} {bytes : List ℕ} → Written count bytes → Pages count bytes
+written-pages none = no-pages
+written-pages (then picture width height maximum buffer total e rest) =
+    one-page (written-page picture width height maximum buffer total e) (written-pages rest)
+
+module _ (picture : List ℕ) (width height maximum : ℕ) (buffer : List ℕ) (total : ℕ) (e : write-answer picture width height maximum (length buffer) ≡ Bytes total) where
+  -- "Round trip covers greys and maximum", and "covers the sequence written"
+  pub round-trip : {earlier later : ℕ} {before after : List ℕ} → Written earlier before → Written later after → let file : List ℕ = before ++ take total (buffer-after picture width height maximum buffer) ++ after in (read-answer file (earlier + 1) ≡ Picture width height maximum (length before + (total - width * height))) × (raster-of file (earlier + 1) ≡ picture)
+  round-trip b a =
+      page-accepted (record {
+        before = _;
+        page = _;
+        after = _;
+        earlier = _;
+        later = _;
+        own = _;
+        layout = refl;
+        before-right = written-pages b;
+        page-right = written-page picture width height maximum buffer total e;
+        after-right = written-pages a;
+        number-right = refl;
+        start-right = refl;
+      })
+
+-- a picture that is written alone
+pub round-trip-alone : (picture : List ℕ) (width height maximum : ℕ) (buffer : List ℕ) (total : ℕ) → write-answer picture width height maximum (length buffer) ≡ Bytes total → let file : List ℕ = take total (buffer-after picture width height maximum buffer) in (read-answer file 1 ≡ Picture width height maximum (total - width * height)) × (raster-of file 1 ≡ picture)
+round-trip-alone picture width height maximum buffer total e =
+    rw (append-nil, zero-add (total - width * height)) at (round-trip picture width height maximum buffer total e none none)
+
+-- the count is theirs: no other number is accepted
+pub round-trip-count : {file : List ℕ} {count : ℕ} → Written count file → 1 ≤ count → (number : ℕ) → (number ≡ 0) ⊎ (count < number) → read-answer file number ≡ Refused PictureNumber
+round-trip-count w = beyond (written-pages w)

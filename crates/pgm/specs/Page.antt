@@ -1,4 +1,4 @@
--- The file as the Netpbm page draws it, byte for byte: the sign, three numbers, each after a gap, one white byte, and the raster.
+-- A picture's own bytes as the Netpbm page draws them: the sign, three numbers, each after a gap, one white byte, and the raster.
 use Prim.Native.Nat.{ℕ, _+_, _*_, _≤_}
 use mathlib.Core.Path.{_≡_}
 use mathlib.Core.Bool.{Bool, true, false}
@@ -31,7 +31,7 @@ pub record Number (digits : List ℕ) (number : ℕ) : Type 0 where
 
 -- "The file starts with the two bytes "P5". Then a gap, width, gap, height, gap, maximum grey, exactly one white byte, and n raster
 -- bytes." The raster starts at a position, no sample of it is above the maximum, and the maximum and the sides are within their bounds.
-pub record Page (file : List ℕ) (width height maximum start : ℕ) (raster : List ℕ) : Type 0 where
+pub record Page (page : List ℕ) (width height maximum start : ℕ) (raster : List ℕ) : Type 0 where
   pub gap₁ : List ℕ
   pub digits₁ : List ℕ
   pub gap₂ : List ℕ
@@ -39,7 +39,7 @@ pub record Page (file : List ℕ) (width height maximum start : ℕ) (raster : L
   pub gap₃ : List ℕ
   pub digits₃ : List ℕ
   pub last : ℕ
-  pub layout : file ≡ sign ++ gap₁ ++ digits₁ ++ gap₂ ++ digits₂ ++ gap₃ ++ digits₃ ++ last ∷ raster
+  pub layout : page ≡ sign ++ gap₁ ++ digits₁ ++ gap₂ ++ digits₂ ++ gap₃ ++ digits₃ ++ last ∷ raster
   pub gap₁-right : Gap gap₁
   pub width-right : Number digits₁ width
   pub gap₂-right : Gap gap₂
@@ -47,7 +47,7 @@ pub record Page (file : List ℕ) (width height maximum start : ℕ) (raster : L
   pub gap₃-right : Gap gap₃
   pub maximum-right : Number digits₃ maximum
   pub last-white : is-white last ≡ true
-  pub start-right : start + length raster ≡ length file
+  pub start-right : start + length raster ≡ length page
   pub sides-within : sides-fit width height ≡ true
   pub maximum-within : maximum-fits maximum ≡ true
   pub raster-length : length raster ≡ width * height

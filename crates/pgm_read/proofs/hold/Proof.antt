@@ -1,6 +1,5 @@
 -- `pgm_read::hold` meets its contract. Assumes nothing.
 use borrow.Author.Tests.{eq-eqb, ne-eqb}
-use borrow.Author.Needs.{needs}
 use Rattle.pgm_read.proofs.hold.Statement.{statement}
 use Rattle.pgm_read.proofs.hold.Tie as tie
 

@@ -1,6 +1,6 @@
 -- `pgm_read::pick` meets its contract. The loop's invariant: the pictures from `at` on, the number that is left and what is held decide the answer. The measure is what is left of the file: a picture ends after it starts. Assumes nothing.
-use Prim.Native.Nat.{_-_, _<_}
-use mathlib.Core.Path.{_≡_, sym, _∙_}
+use Prim.Native.Nat.{_-_}
+use mathlib.Core.Path.{sym, _∙_}
 use native.Mathlib.Omega.{arith}
 use lib.ListN.{length}
 use Rattle.pgm_read.proofs.Judging.{accepted, goes-on}

@@ -1,0 +1,208 @@
+-- An accepted file is exactly a sequence of pages: `accepted-page` gives the page of the number, among pages before and after it;
+-- `page-accepted` gives the answer and the raster where there is such a page. `beyond` and `not-named` say the same of the number. Assumes nothing.
+use Prim.Native.Nat.{ℕ, zero, suc, _+_, _-_, _≤_, _<_}
+use mathlib.Core.Path.{_≡_, refl, sym, _∙_, ap}
+use mathlib.Core.Bool.{Bool, true, false, _&&_}
+use mathlib.Core.List.{List, [], _∷_, _++_, append-assoc}
+use mathlib.Core.Logic.{_⊎_, inl, inr}
+use native.Mathlib.Omega.{arith}
+use lib.Dec.{leb}
+use lib.ListN.{length, getD, drop, length-append}
+use lib.Seq.{drop-append-seam}
+use borrow.Author.Tests.{le-leb, lt-leb, leb-true, leb-false}
+use Rattle.causes.specs.declared.Cause.the-variants.{PictureNumber}
+use Rattle.causes.specs.declared.Cause.{Cause}
+use Rattle.causes.specs.Causes.{number-of, must}
+use Rattle.causes.proofs.Laws.{both-true}
+use Rattle.causes.proofs.Refusing.{must-passed}
+use Rattle.pgm_read.specs.Read.{pictures, pictures-from, read-answer, raster-of}
+use Rattle.pgm_read.specs.declared.Found.{Found}
+use Rattle.pgm_read.specs.declared.Found.the-variants.{Picture, Refused}
+use Rattle.pgm.specs.Page.{Page}
+use Rattle.pgm.specs.Burst.{Pages, Numbered}
+use Rattle.pgm.specs.Burst.Pages.{none, then}
+use Rattle.pgm.proofs.Shape.{page-read}
+use Rattle.pgm.proofs.Pages.{Shown, Faulty, pages-shown, shown-pages, joined, shown-good, shown-found, found-shown}
+use Rattle.pgm.proofs.Pages.Shown.{nothing, page}
+
+-- the answer on a file of pages
+module _ {file : List ℕ} where
+  all-found : (shown : List Found) → Shown 0 file shown → 1 ≤ length shown → pictures file ≡ shown
+  all-found [] s some = absurd (omega arith)
+  all-found (p ∷ rest) s some = shown-found (suc (length file)) file (omega arith) s refl
+
+  module _ {shown : List Found} (s : Shown 0 file shown) (number : ℕ) where
+    shown-answer : 1 ≤ number → number ≤ length shown → read-answer file number ≡ getD shown (number - 1) (Refused PictureNumber)
+    unfolding read-answer
+    shown-answer one most =
+        rw (all-found shown s (omega arith)) (shown-good s _ ∙ simp (le-leb 1 number one, le-leb number (length shown) most))
+
+    shown-beyond : 1 ≤ length shown → (number ≡ 0) ⊎ (length shown < number) → read-answer file number ≡ Refused PictureNumber
+    unfolding read-answer
+    shown-beyond some (inl e) = rw (all-found shown s some) (shown-good s _ ∙ rw e)
+    shown-beyond some (inr l) = rw (all-found shown s some) (shown-good s _ ∙ simp (le-leb 1 number (omega arith), lt-leb number (length shown) l))
+
+some-pictures : (file : List ℕ) → 1 ≤ length (pictures file)
+unfolding pictures-from
+some-pictures file = omega arith
+
+getD-seam : {A : Type 0} (front : List A) (x : A) (after : List A) (d : A) → getD (front ++ x ∷ after) (length front) d ≡ x
+getD-seam [] x after d = refl
+getD-seam (y ∷ front) x after d = getD-seam front x after d
+
+-- a page among pages is answered by its number, and its raster is the one handed back
+pub page-accepted : {file : List ℕ} {number width height maximum start : ℕ} {raster : List ℕ} → Numbered file number width height maximum start raster → (read-answer file number ≡ Picture width height maximum start) × (raster-of file number ≡ raster)
+page-accepted {file} {number} {width} {height} {maximum} {start} {raster} n =
+    let b = pages-shown (n .before-right) 0 in
+    let a = pages-shown (n .after-right) (length (n .before) + length (n .page)) in
+    let found : Found = Picture width height maximum (length (n .before) + n .own) in
+    let layout : file ≡ n .before ++ (n .page ++ n .after) = n .layout ∙ append-assoc (n .before) (n .page) (n .after) in
+    let here : drop (length (n .before)) file ≡ n .page ++ n .after = ap (drop (length (n .before))) layout ∙ drop-append-seam (n .before) (n .page ++ n .after) in
+    let all : Shown 0 file (b .0 ++ found ∷ a .0) = rw layout (joined (b .1) (omega arith) (page (n .page-right) refl (a .1))) in
+    let place : number - 1 ≡ length (b .0) = omega (arith, n .number-right, b .2) in
+    let total : length (b .0 ++ found ∷ a .0) ≡ length (b .0) + suc (length (a .0)) = length-append (b .0) (found ∷ a .0) in
+    let r = page-read file (length (n .before)) (n .page-right) (n .after) here in
+    let answer : read-answer file number ≡ Picture width height maximum start =
+        shown-answer all number (omega (arith, n .number-right)) (omega (arith, n .number-right, b .2, total))
+        ∙ ap (λ (i : ℕ). getD (b .0 ++ found ∷ a .0) i (Refused PictureNumber)) place
+        ∙ getD-seam (b .0) found (a .0) (Refused PictureNumber)
+        ∙ ap (Picture width height maximum) (sym (n .start-right)) in
+    (answer, rw (answer, n .start-right) (r .1))
+
+-- the page of a place among pages that start at a position
+record NumberedFrom (at : ℕ) (bytes : List ℕ) (place width height maximum start : ℕ) : Type 0 where
+  raster : List ℕ
+  before : List ℕ
+  page-there : List ℕ
+  after : List ℕ
+  later : ℕ
+  own : ℕ
+  layout : bytes ≡ before ++ (page-there ++ after)
+  before-right : Pages place before
+  page-right : Page page-there width height maximum own raster
+  after-right : Pages later after
+  start-right : start ≡ at + length before + own
+
+no-picture : (w h m s : ℕ) → Refused PictureNumber ≡ Picture w h m s → ⊥
+no-picture w h m s e = let z : _≡_ {A = ℕ} 0 1 = cc in omega arith
+
+pick-page : {at : ℕ} {bytes : List ℕ} {shown : List Found} → Shown at bytes shown → (place width height maximum start : ℕ) → getD shown place (Refused PictureNumber) ≡ Picture width height maximum start → NumberedFrom at bytes place width height maximum start
+pick-page nothing place w h m s g = absurd (no-picture w h m s g)
+pick-page (page {at} {width = w′} {height = h′} {maximum = m′} {own = own} {bytes = b} {rest = r} {raster = raster} p e q) zero w h m s g =
+    let ew : w′ ≡ w = cc g in
+    let eh : h′ ≡ h = cc g in
+    let em : m′ ≡ m = cc g in
+    let es : at + own ≡ s = cc g in
+    record {
+      raster = raster;
+      before = [];
+      page-there = b;
+      after = r;
+      later = _;
+      own = own;
+      layout = refl;
+      before-right = none;
+      page-right = rw (← ew, ← eh, ← em) p;
+      after-right = shown-pages q;
+      start-right = omega arith;
+    }
+pick-page (page {at} {end} {bytes = b} {rest = r} p e q) (suc place) w h m s g =
+    let n = pick-page q place w h m s g in
+    record {
+      raster = n .raster;
+      before = b ++ n .before;
+      page-there = n .page-there;
+      after = n .after;
+      later = n .later;
+      own = n .own;
+      layout = ap (λ (l : List ℕ). b ++ l) (n .layout) ∙ sym (append-assoc b (n .before) (n .page-there ++ n .after));
+      before-right = then p (n .before-right);
+      page-right = n .page-right;
+      after-right = n .after-right;
+      start-right = omega (arith, n .start-right, e, length-append b (n .before));
+    }
+
+module _ (file : List ℕ) (number : ℕ) where
+  -- either the file has nothing but pages, and the number decides, or the answer is the cause of a faulty picture
+  by-number : Found
+  by-number = getD (pictures file) (number - 1) (Refused PictureNumber)
+
+  Decided : Type 0
+  Decided = (Shown 0 file (pictures file) × (read-answer file number ≡ must Refused (leb 1 number && leb number (length (pictures file))) PictureNumber by-number)) ⊎ ((cause : Cause) × (number-of cause < 18) × (read-answer file number ≡ Refused cause))
+
+  decided : Decided
+  unfolding read-answer Decided by-number
+  decided = go (found-shown (suc (length file)) file 0 (omega arith) (omega arith))
+    where
+      go : Shown 0 file (pictures file) ⊎ Faulty (pictures file) → Decided
+      go (inl s) = inl (s, shown-good s _)
+      go (inr f) = inr (f .cause, f .small, f .given _)
+
+  module _ (width height maximum start : ℕ) (e : read-answer file number ≡ Picture width height maximum start) where
+    number-found : Shown 0 file (pictures file) × (1 ≤ number) × (getD (pictures file) (number - 1) (Refused PictureNumber) ≡ Picture width height maximum start)
+    unfolding Decided by-number
+    number-found = go decided
+      where
+        go : Decided → Shown 0 file (pictures file) × (1 ≤ number) × (getD (pictures file) (number - 1) (Refused PictureNumber) ≡ Picture width height maximum start)
+        go (inl (s, a)) =
+            let m = must-passed Refused (leb 1 number && leb number (length (pictures file))) PictureNumber by-number (Picture width height maximum start) (no-picture width height maximum start) (sym a ∙ e) in
+            (s, leb-true 1 number (both-true (leb 1 number) (leb number (length (pictures file))) (m .0) .0), m .1)
+        go (inr (cause, l, a)) = let f : Refused cause ≡ Picture width height maximum start = sym a ∙ e in let z : _≡_ {A = ℕ} 0 1 = cc in absurd (omega arith)
+
+    -- the page of an accepted number
+    pub accepted-page : Numbered file number width height maximum start (raster-of file number)
+    accepted-page =
+        let f = number-found in
+        let p = pick-page (f .0) (number - 1) width height maximum start (f .2) in
+        let n : Numbered file number width height maximum start (p .raster) = record {
+          before = p .before;
+          page = p .page-there;
+          after = p .after;
+          earlier = number - 1;
+          later = p .later;
+          own = p .own;
+          layout = p .layout ∙ sym (append-assoc (p .before) (p .page-there) (p .after));
+          before-right = p .before-right;
+          page-right = p .page-right;
+          after-right = p .after-right;
+          number-right = omega (arith, f .1);
+          start-right = omega (arith, p .start-right);
+        } in
+        rw (page-accepted n .1) n
+
+-- no picture of a file of pages has a number outside 1 to their count
+pub beyond : {file : List ℕ} {count : ℕ} → Pages count file → 1 ≤ count → (number : ℕ) → (number ≡ 0) ⊎ (count < number) → read-answer file number ≡ Refused PictureNumber
+beyond p some number out =
+    let s = pages-shown p 0 in
+    shown-beyond (s .1) number (omega (arith, s .2)) (rw (s .2) out)
+
+shown-no-cause : {at : ℕ} {bytes : List ℕ} {shown : List Found} → Shown at bytes shown → (place : ℕ) (cause : Cause) → place < length shown → getD shown place (Refused PictureNumber) ≡ Refused cause → ⊥
+shown-no-cause nothing place cause l e = absurd (omega arith)
+shown-no-cause (page p f s) zero cause l e = let z : _≡_ {A = ℕ} 0 1 = cc in omega arith
+shown-no-cause (page p f s) (suc place) cause l e = shown-no-cause s place cause (omega arith) e
+
+-- and only of such a file, for such a number, is that the cause
+pub not-named : (file : List ℕ) (number : ℕ) → read-answer file number ≡ Refused PictureNumber → (count : ℕ) × Pages count file × (1 ≤ count) × ((number ≡ 0) ⊎ (count < number))
+unfolding Decided by-number
+not-named file number e = go (decided file number)
+  where
+    outside : (t u : Bool) → leb 1 number ≡ t → leb number (length (pictures file)) ≡ u → Shown 0 file (pictures file) → must Refused (t && u) PictureNumber (by-number file number) ≡ Refused PictureNumber → (number ≡ 0) ⊎ (length (pictures file) < number)
+    outside false u f g s a = inl (omega (arith, leb-false 1 number f))
+    outside true false f g s a = inr (leb-false number (length (pictures file)) g)
+    outside true true f g s a =
+        absurd (shown-no-cause s (number - 1) PictureNumber (omega (arith, leb-true 1 number f, leb-true number (length (pictures file)) g)) a)
+
+    go : Decided file number → (count : ℕ) × Pages count file × (1 ≤ count) × ((number ≡ 0) ⊎ (count < number))
+    go (inl (s, a)) = (length (pictures file), shown-pages s, some-pictures file, outside (leb 1 number) (leb number (length (pictures file))) refl refl s (sym a ∙ e))
+    go (inr (cause, l, a)) =
+        let f : Refused cause ≡ Refused PictureNumber = sym a ∙ e in
+        let same : cause ≡ PictureNumber = cc in
+        absurd (omega (arith, rw same at l))
+
+-- so the first picture of a file is there, or the file is refused for another cause
+pub first-there : (file : List ℕ) → read-answer file 1 ≡ Refused PictureNumber → ⊥
+first-there file e = go (not-named file 1 e .3)
+  where
+    go : (_≡_ {A = ℕ} 1 0) ⊎ (not-named file 1 e .0 < 1) → ⊥
+    go (inl z) = omega arith
+    go (inr l) = omega (arith, not-named file 1 e .2)
