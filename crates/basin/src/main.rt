@@ -1,4 +1,4 @@
-// Sizes the picture of basin.pgm by the steps of steps.tsv, both in the working folder, and prints a line for each pixel: its row, column,
+// Sizes the first picture of basin.pgm by the steps of steps.tsv, both in the working folder, and prints a line for each pixel: its row, column,
 // grey, residue and index. A refusal prints its one line alone, since nothing is printed before every cause is judged.
 ghost use mathlib.Core.Path.{_≡_};
 ghost use Prim.Native.Nat.{_*_, _≤_, _<_};
@@ -148,7 +148,7 @@ fn answer(file: &[u8], list: &[u8]) {
             count,
             gap,
         } => maps(
-            pgm::raster(file),
+            pgm::raster(file, basin_judging::PICTURE),
             grid,
             attribute,
             &thresholds[..count],

@@ -16,7 +16,7 @@ use Rattle.causes.specs.declared.Cause.the-variants.{TooLarge, NotRead}
 use Rattle.pgm_read.specs.Read.{read-answer, raster-of}
 use Rattle.pgm_read.specs.declared.Found.{Found}
 use Rattle.pgm_read.specs.declared.Found.the-variants.{Picture, Refused as Not-found}
-use Rattle.pgm.proofs.Shape.{accepted-page}
+use Rattle.pgm.proofs.Burst.{accepted-page}
 use Rattle.steps.specs.Answer.{parse-answer, parsed-numbers, steps-after}
 use Rattle.steps.proofs.Laws.{parsed-determined}
 use Rattle.steps.specs.declared.Parsed.{Parsed}
@@ -27,7 +27,7 @@ use Rattle.basin_judging.specs.declared.Lengths.{Lengths}
 use Rattle.basin_judging.specs.declared.Lengths.the-variants.{Both, Refused as Not-both}
 use Rattle.basin_judging.specs.declared.Job.{Job}
 use Rattle.basin_judging.specs.declared.Job.the-variants.{Size, Refused}
-use Rattle.basin_judging.specs.Judging.{longest-file, most-sized, both-read, lengths-numbers, basin-grid, basin-gap, sized-by, judged-with, job-of, job-numbers, job-steps}
+use Rattle.basin_judging.specs.Judging.{longest-file, most-sized, both-read, lengths-numbers, basin-grid, basin-gap, basin-picture, sized-by, judged-with, job-of, job-numbers, job-steps}
 
 -- an answer's numbers determine it
 pub lengths-determined : (r s : Lengths) → lengths-numbers r ≡ lengths-numbers s → r ≡ s
@@ -75,11 +75,11 @@ by-cause grid cause parsed e = rw e refl
 abbrev pub Judged : List ℕ → List ℕ → List ℕ → Job → List ℕ → Type 0
 Judged file list lent answer after = (job-numbers answer ≡ job-numbers (job-of file list)) × (after ≡ job-steps file list lent)
 
-pub unread : (file list lent : List ℕ) (cause : Cause) → read-answer file ≡ Not-found cause → Judged file list lent (Refused cause) lent
+pub unread : (file list lent : List ℕ) (cause : Cause) → read-answer file basin-picture ≡ Not-found cause → Judged file list lent (Refused cause) lent
 unfolding job-of job-steps
 unread file list lent cause e = rw e (refl, refl)
 
-module _ (file list lent : List ℕ) (w h maximum start : ℕ) (is : read-answer file ≡ Picture w h maximum start) where
+module _ (file list lent : List ℕ) (w h maximum start : ℕ) (is : read-answer file basin-picture ≡ Picture w h maximum start) where
   pub too-large : most-sized < pixels (basin-grid w h) → Judged file list lent (Refused TooLarge) lent
   unfolding job-of job-steps
   too-large l = rw (is, lt-ltb most-sized (pixels (basin-grid w h)) l) (refl, refl)
@@ -90,7 +90,7 @@ module _ (file list lent : List ℕ) (w h maximum start : ℕ) (is : read-answer
 
 -- what is to be sized: a picture of at most 2,048 pixels, by a steps file that is accepted
 pub record Sizing (file list lent : List ℕ) (attribute count : ℕ) : Type 0 where
-  pub few : length (raster-of file) ≤ most-sized
+  pub few : length (raster-of file basin-picture) ≤ most-sized
   pub parsed : parse-answer list ≡ Steps attribute count
   pub stored : job-steps file list lent ≡ steps-after list lent
 
@@ -99,7 +99,7 @@ steps-of g grid attribute count gap (Steps a c) e = let f : a ≡ attribute = cc
 steps-of g grid attribute count gap (Not-parsed cause) e = let z : _≡_ {A = ℕ} 0 1 = cc in absurd (omega arith)
 
 module _ (file list lent : List ℕ) (grid : Grid) (attribute count gap : ℕ) where
-  within : (found : Found) → read-answer file ≡ found → judged-with found (parse-answer list) ≡ Size grid attribute count gap → Sizing file list lent attribute count
+  within : (found : Found) → read-answer file basin-picture ≡ found → judged-with found (parse-answer list) ≡ Size grid attribute count gap → Sizing file list lent attribute count
   unfolding job-steps
   within (Not-found cause) is e = let z : _≡_ {A = ℕ} 0 1 = cc in absurd (omega arith)
   within (Picture w h maximum start) is e = go (ltb most-sized (pixels (basin-grid w h))) refl
@@ -109,14 +109,14 @@ module _ (file list lent : List ℕ) (grid : Grid) (attribute count gap : ℕ) w
       go false l =
           let f : sized-by (basin-grid w h) (parse-answer list) ≡ Size grid attribute count gap = sym (rw l refl) ∙ e in
           record {
-            few = omega (arith, accepted-page file w h maximum start is .raster-length, ltb-false most-sized (pixels (basin-grid w h)) l);
+            few = omega (arith, accepted-page file basin-picture w h maximum start is .page-right .raster-length, ltb-false most-sized (pixels (basin-grid w h)) l);
             parsed = steps-of (basin-grid w h) grid attribute count gap (parse-answer list) f;
             stored = rw (is, l) refl;
           }
 
   pub sizing : (r : Job) → job-numbers r ≡ job-numbers (job-of file list) → r ≡ Size grid attribute count gap → Sizing file list lent attribute count
   unfolding job-of
-  sizing r e is = within (read-answer file) refl (sym (job-determined r (job-of file list) e) ∙ is)
+  sizing r e is = within (read-answer file basin-picture) refl (sym (job-determined r (job-of file list) e) ∙ is)
 
 -- the lengths that are handed on are those of files that were read
 both-of : (a b : Loaded) (p s : ℕ) → both-read a b ≡ Both p s → (a ≡ Bytes p) × (b ≡ Bytes s)

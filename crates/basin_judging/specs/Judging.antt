@@ -57,6 +57,10 @@ sized-by grid (Not-parsed cause) = Refused cause
 abbrev pub basin-grid : ℕ → ℕ → Grid
 basin-grid w h = grid-of w h 4
 
+-- "The program takes the first."
+abbrev pub basin-picture : ℕ
+basin-picture = 1
+
 -- the reader's causes, then "n above 2,048", then those of the steps file
 abbrev pub judged-with : Found → Parsed → Job
 judged-with (Picture w h maximum start) parsed =
@@ -64,7 +68,7 @@ judged-with (Picture w h maximum start) parsed =
 judged-with (Not-found cause) parsed = Refused cause
 
 unfoldable pub job-of : List ℕ → List ℕ → Job
-job-of file list = judged-with (read-answer file) (parse-answer list)
+job-of file list = judged-with (read-answer file basin-picture) (parse-answer list)
 
 -- the thresholds: those of the steps file, where it comes to be judged
 abbrev pub stored-with : Found → List ℕ → List ℕ → List ℕ
@@ -72,4 +76,4 @@ stored-with (Picture w h maximum start) list lent = cond (ltb most-sized (pixels
 stored-with (Not-found cause) list lent = lent
 
 unfoldable pub job-steps : List ℕ → List ℕ → List ℕ → List ℕ
-job-steps file list lent = stored-with (read-answer file) list lent
+job-steps file list lent = stored-with (read-answer file basin-picture) list lent

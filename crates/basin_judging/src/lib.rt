@@ -13,6 +13,9 @@ const MOST_SIZED: usize = 2048;
 // The gap that the program names.
 const GAP: u32 = 0;
 
+// The number of the picture that the program takes.
+pub const PICTURE: usize = 1;
+
 // How many bytes a file has, up to the length of the buffer that it was read into, or that it was not opened or read.
 pub enum Loaded {
     Bytes(usize),
@@ -78,12 +81,12 @@ fn by_steps(grid: Grid, list: &[u8], thresholds: &mut [u32; 256]) -> Job
     }
 }
 
-// The picture's file, its size, then the steps file.
+// The picture's file, all of it, the first picture's size, then the steps file.
 pub fn judge(file: &[u8], list: &[u8], thresholds: &mut [u32; 256]) -> Job
     ensures answer { λ r. ⌜ job-numbers r ≡ job-numbers (job-of (now (file .entry)) (now (list .entry))) ⌝ }
     ensures thresholds { λ _. ⌜ now (thresholds .exit) ≡ job-steps (now (file .entry)) (now (list .entry)) (now (thresholds .entry)) ⌝ }
 {
-    match pgm::read(file) {
+    match pgm::read(file, PICTURE) {
         pgm::Found::Picture {
             width,
             height,

@@ -18,7 +18,7 @@ returns : tie.Need-returns
 returns c =
     let found = c .before .before .before in
     too-large _ _ _ _ _ _ _
-    (read-as _ _ _ (found .before .before .read .ensures) (found .width .given .1))
+    (read-as _ _ _ _ (found .before .before .read .ensures) (found .width .given .1))
     (rw (← c .before .pixels .ensures) (c .if1 .taken))
 
 by-steps-requires : tie.Need-by-steps-requires
@@ -29,7 +29,7 @@ returns-2 c =
     let counted = c .before .before .before in
     let found = counted .before .before in
     small-enough _ _ _ _ _ _ _
-    (read-as _ _ _ (found .before .before .read .ensures) (found .width .given .1))
+    (read-as _ _ _ _ (found .before .before .read .ensures) (found .width .given .1))
     (rw (← counted .pixels .ensures) (c .before .before .if1 .left))
     _
     _
@@ -40,7 +40,7 @@ enum-known-cause : tie.Need-enum-known-cause
 enum-known-cause c = search needs
 
 returns-3 : tie.Need-returns-3
-returns-3 c = unread _ _ _ _ (read-as _ _ _ (c .before .before .before .read .ensures) (c .before .cause .given .1))
+returns-3 c = unread _ _ _ _ (read-as _ _ _ _ (c .before .before .before .read .ensures) (c .before .cause .given .1))
 
 pub judge-spec : {M : Type 1} → statement M
 judge-spec =
