@@ -63,10 +63,10 @@ page-accepted {file} {number} {width} {height} {maximum} {start} {raster} n =
     let total : length (b .0 ++ found ∷ a .0) ≡ length (b .0) + suc (length (a .0)) = length-append (b .0) (found ∷ a .0) in
     let r = page-read file (length (n .before)) (n .page-right) (n .after) here in
     let answer : read-answer file number ≡ Picture width height maximum start =
-        shown-answer all number (omega (arith, n .number-right)) (omega (arith, n .number-right, b .2, total))
-        ∙ ap (λ (i : ℕ). getD (b .0 ++ found ∷ a .0) i (Refused PictureNumber)) place
-        ∙ getD-seam (b .0) found (a .0) (Refused PictureNumber)
-        ∙ ap (Picture width height maximum) (sym (n .start-right)) in
+    shown-answer all number (omega (arith, n .number-right)) (omega (arith, n .number-right, b .2, total))
+    ∙ ap (λ (i : ℕ). getD (b .0 ++ found ∷ a .0) i (Refused PictureNumber)) place
+    ∙ getD-seam (b .0) found (a .0) (Refused PictureNumber)
+    ∙ ap (Picture width height maximum) (sym (n .start-right)) in
     (answer, rw (answer, n .start-right) (r .1))
 
 -- the page of a place among pages that start at a position

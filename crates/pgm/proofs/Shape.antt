@@ -69,8 +69,8 @@ module _ (file : List ℕ) (at width height maximum start : ℕ) (e : picture-at
       let split : drop start file ≡ raster ++ rest = sym (take-append-drop n (drop start file)) ∙ ap (λ (l : List ℕ). raster ++ l) (drop-drop n start file) in
       let signs : drop at file ≡ sign ++ drop (at + 2) file = after-sign (drop at file) (s .0) ∙ ap (λ (l : List ℕ). sign ++ l) (drop-drop 2 at file) in
       let stands : drop at file ≡ page ++ rest =
-          cc (signs, w .layout, v .layout, m .layout, l .1, split, h .start-read)
-          ∙ sym (regroup (w .gap) (w .digits) (v .gap) (v .digits) (m .gap) (m .digits) last raster rest) in
+      cc (signs, w .layout, v .layout, m .layout, l .1, split, h .start-read)
+      ∙ sym (regroup (w .gap) (w .digits) (v .gap) (v .digits) (m .gap) (m .digits) last raster rest) in
       let before : at + 2 < start = header-after file (at + 2) width height maximum start (a .header) in
       let total = bytes-from file at page rest stands in
       let after = bytes-from file start raster rest split in
@@ -121,9 +121,9 @@ module _ (file : List ℕ) (at : ℕ) {page raster : List ℕ} {width height max
       let s₁ : List ℕ = p .gap₂ ++ (p .digits₂ ++ s₂) in
       let s₀ : List ℕ = p .gap₁ ++ (p .digits₁ ++ s₁) in
       let l : drop at file ≡ sign ++ s₀ =
-          stands
-          ∙ ap (λ (l : List ℕ). l ++ rest) (p .layout)
-          ∙ regroup (p .gap₁) (p .digits₁) (p .gap₂) (p .digits₂) (p .gap₃) (p .digits₃) (p .last) raster rest in
+      stands
+      ∙ ap (λ (l : List ℕ). l ++ rest) (p .layout)
+      ∙ regroup (p .gap₁) (p .digits₁) (p .gap₂) (p .digits₂) (p .gap₃) (p .digits₃) (p .last) raster rest in
       let after : drop (at + 2) file ≡ s₀ = drop-past file at sign s₀ l in
       let w = part-read width (p .digits₁) s₁ (p .width-right) (gap-stops (p .gap₂-right) (p .digits₂ ++ s₂)) file (at + 2) (p .gap₁-right) after in
       let h = part-read height (p .digits₂) s₂ (p .height-right) (gap-stops (p .gap₃-right) (p .digits₃ ++ s₃)) file (w .after) (p .gap₂-right) (w .stands) in

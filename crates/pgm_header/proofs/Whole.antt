@@ -106,5 +106,5 @@ header-after file at width height maximum start e =
       part-after file at width (h .height-from) (h .width-read),
       part-after file (h .height-from) height (h .maximum-from) (h .height-read),
       part-after file (h .maximum-from) maximum (h .end) (h .maximum-read),
-      h .start-read
+      h .start-read,
     )

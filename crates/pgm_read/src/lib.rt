@@ -100,22 +100,14 @@ fn picture_at(file: &[u8], at: usize) -> Found
 fn one_less(left: usize) -> usize
     ensures { λ r. ⌜ r ≡ left - 1 ⌝ }
 {
-    if left == 0 {
-        0
-    } else {
-        left - 1
-    }
+    if left == 0 { 0 } else { left - 1 }
 }
 
 // What is held after a picture of which the number that is left says whether it is the one named: at 1 it is.
 fn hold(held: Named, left: usize, picture: Named) -> Named
     ensures { λ r. ⌜ r ≡ cond (eqb left 1) picture held ⌝ }
 {
-    if left == 1 {
-        picture
-    } else {
-        held
-    }
+    if left == 1 { picture } else { held }
 }
 
 // The picture of a number. Every picture of the file is judged, one after the other, and the one that has the number is held. The

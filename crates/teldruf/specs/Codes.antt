@@ -1,6 +1,6 @@
 -- What the C interface makes of the number and values of an answer: 64 bits, the value where the call is accepted (0 where it has none),
 -- else the cause's number times 2^32. No value reaches 2^32 but where the raster starts, which stands in the head.
-use Prim.Native.Nat.{ℕ, _*_, _%_, _^_}
+use Prim.Native.Nat.{ℕ, _*_, _^_}
 use mathlib.Core.Bool.{cond}
 use mathlib.Core.List.{List, [], _∷_}
 use lib.Dec.{eqb}
@@ -19,7 +19,7 @@ abbrev pub number-code : List ℕ → ℕ
 number-code [] = 0
 number-code (number ∷ values) = number * 2 ^ 32
 
--- the four words of the head hold width, height, maximum and where the raster starts, in 32 bits; a refusal leaves them as they were
+-- the four words of the head hold width, height, maximum and where the raster starts in the file; a refusal leaves them as they were
 abbrev pub head-with : Found → List ℕ → List ℕ
-head-with (Picture width height maximum start) head = sets head 0 (width ∷ height ∷ maximum ∷ start % 2 ^ 32 ∷ [])
+head-with (Picture width height maximum start) head = sets head 0 (width ∷ height ∷ maximum ∷ start ∷ [])
 head-with (Refused cause) head = head

@@ -24,23 +24,24 @@ fn refused(cause: Cause) -> u64
     causes::number(cause) as u64 * 4294967296
 }
 
-// Reads a PGM file: the four words of the head are its width, height, maximum and where the raster starts.
+// Reads the picture of a number, from 1 up, of a PGM file: the four words of the head are its width, height, maximum and where its
+// raster starts in the file.
 #[no_mangle]
-pub extern "C" fn teldruf_read_pgm(file: &[u8], head: &mut [u32; 4]) -> u64
-    ensures answer { λ r. ⌜ r ≡ number-code (found-numbers (read-answer (now (file .entry)))) ⌝ }
-    ensures head { λ _. ⌜ now (head .exit) ≡ head-with (read-answer (now (file .entry))) (now (head .entry)) ⌝ }
+pub extern "C" fn teldruf_read_pgm(file: &[u8], number: u64, head: &mut [u64; 4]) -> u64
+    ensures answer { λ r. ⌜ r ≡ number-code (found-numbers (read-answer (now (file .entry)) number)) ⌝ }
+    ensures head { λ _. ⌜ now (head .exit) ≡ head-with (read-answer (now (file .entry)) number) (now (head .entry)) ⌝ }
 {
-    match pgm::read(file) {
+    match pgm::read(file, number as usize) {
         pgm::Found::Picture {
             width,
             height,
             maximum,
             start,
         } => {
-            head[0] = width;
-            head[1] = height;
-            head[2] = maximum;
-            head[3] = (start % 4294967296) as u32;
+            head[0] = width as u64;
+            head[1] = height as u64;
+            head[2] = maximum as u64;
+            head[3] = start as u64;
             0
         }
         pgm::Found::Refused(cause) => refused(cause),

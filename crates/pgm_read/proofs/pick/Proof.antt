@@ -35,19 +35,19 @@ pixels-requires c κs = accepted _ _ _ _ _ _ (sym (c .before .before .before .be
 
 add-at : tie.Need-add-at Inv-loop μ-loop
 add-at c =
-  let g = goes-on _ _ _ _ _ _ (sym (c .before .before .before .before .before .before .picture-at .ensures) ∙ c .before .before .before .before .width .given .1) in
-  let n = c .pixels .ensures in
-  search needs
+    let g = goes-on _ _ _ _ _ _ (sym (c .before .before .before .before .before .before .picture-at .ensures) ∙ c .before .before .before .before .width .given .1) in
+    let n = c .pixels .ensures in
+    search needs
 
 returns : tie.Need-returns Inv-loop μ-loop
 returns c =
-  let s = walk-done (c .before .before .before .before .before .before .before .before .loop .inv) _ _ _ _ (sym (c .before .before .before .before .before .before .before .picture-at .ensures) ∙ c .before .before .before .before .before .width .given .1) _ (c .before .before .before .hold .ensures) _ (c .before .pixels .ensures) (c .if1 .taken) in
-  (s .is, s .stands)
+    let s = walk-done (c .before .before .before .before .before .before .before .before .loop .inv) _ _ _ _ (sym (c .before .before .before .before .before .before .before .picture-at .ensures) ∙ c .before .before .before .before .before .width .given .1) _ (c .before .before .before .hold .ensures) _ (c .before .pixels .ensures) (c .if1 .taken) in
+    (s .is, s .stands)
 
 loop-less : tie.Need-loop-less Inv-loop μ-loop
 loop-less c =
-  let g = goes-on _ _ _ _ _ _ (sym (c .before .before .before .before .before .before .before .picture-at .ensures) ∙ c .before .before .before .before .before .width .given .1) in
-  omega (arith, g .0, g .1, c .before .pixels .ensures, c .if1 .left)
+    let g = goes-on _ _ _ _ _ _ (sym (c .before .before .before .before .before .before .before .picture-at .ensures) ∙ c .before .before .before .before .before .width .given .1) in
+    omega (arith, g .0, g .1, c .before .pixels .ensures, c .if1 .left)
 
 loop-again : tie.Need-loop-again Inv-loop μ-loop
 loop-again c = walk-on (c .before .before .before .before .before .before .before .before .loop .inv) _ _ _ _ (sym (c .before .before .before .before .before .before .before .picture-at .ensures) ∙ c .before .before .before .before .before .width .given .1) _ (c .before .before .before .hold .ensures) _ _ (c .before .pixels .ensures) (c .before .before .one-less .ensures) (c .if1 .left)
@@ -57,8 +57,8 @@ enum-known-cause c = search needs
 
 returns-2 : tie.Need-returns-2 Inv-loop μ-loop
 returns-2 c =
-  let s = walk-faulty (c .before .before .before .before .loop .inv) _ (sym (c .before .before .before .picture-at .ensures) ∙ c .before .cause .given .1) in
-  (s .is, s .stands)
+    let s = walk-faulty (c .before .before .before .before .loop .inv) _ (sym (c .before .before .before .picture-at .ensures) ∙ c .before .cause .given .1) in
+    (s .is, s .stands)
 
 pub pick-spec : {M : Type 1} → statement M
 pick-spec =

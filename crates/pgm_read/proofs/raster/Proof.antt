@@ -14,8 +14,8 @@ enum-known-at c = search needs
 
 add-raster-after-sign : tie.Need-add-raster-after-sign
 add-raster-after-sign c =
-  let within = picked-within _ _ _ _ _ _ _ _ (c .before .at .given .1) (c .before .before .before .pick .ensures .0) (c .before .before .before .pick .ensures .1) in
-  search needs
+    let within = picked-within _ _ _ _ _ _ _ _ (c .before .at .given .1) (c .before .before .before .pick .ensures .0) (c .before .before .before .pick .ensures .1) in
+    search needs
 
 raster-after-sign-requires : tie.Need-raster-after-sign-requires
 raster-after-sign-requires c κs = search needs

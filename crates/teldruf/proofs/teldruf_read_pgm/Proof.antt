@@ -15,17 +15,23 @@ read-requires c κs = search needs
 enum-known-width : tie.Need-enum-known-width
 enum-known-width c = search needs
 
+cast-head : tie.Need-cast-head
+cast-head c = search needs
+
 element-write-head : tie.Need-element-write-head
 element-write-head c = search needs
+
+cast-head-2 : tie.Need-cast-head-2
+cast-head-2 c = search needs
 
 element-write-head-2 : tie.Need-element-write-head-2
 element-write-head-2 c = search needs
 
+cast-head-3 : tie.Need-cast-head-3
+cast-head-3 c = search needs
+
 element-write-head-3 : tie.Need-element-write-head-3
 element-write-head-3 c = search needs
-
-cast-head : tie.Need-cast-head
-cast-head c = search needs
 
 element-write-head-4 : tie.Need-element-write-head-4
 element-write-head-4 c = search needs
@@ -38,12 +44,12 @@ refused-requires c κs = search needs
 
 returns : tie.Need-returns
 returns c =
-    let e = sym (read-as _ _ _ (c .before .before .before .read .ensures) (c .before .width .given .1)) in
+    let e = sym (read-as _ _ _ _ (c .before .before .before .read .ensures) (c .before .width .given .1)) in
     (ap (λ (f : Found). number-code (found-numbers f)) e, ap (λ (f : Found). head-with f (now (c .before .before .before .before .before .args .head))) e)
 
 returns-2 : tie.Need-returns-2
 returns-2 c =
-    let e = sym (read-as _ _ _ (c .before .before .before .before .read .ensures) (c .before .before .cause .given .1)) in
+    let e = sym (read-as _ _ _ _ (c .before .before .before .before .read .ensures) (c .before .before .cause .given .1)) in
     (c .refused .ensures ∙ ap (λ (f : Found). number-code (found-numbers f)) e, ap (λ (f : Found). head-with f (now (c .before .before .before .before .before .before .args .head))) e)
 
 pub teldruf-read-pgm-spec : {M : Type 1} → statement M
@@ -52,10 +58,12 @@ teldruf-read-pgm-spec =
     (tie.spec
     read-requires
     enum-known-width
-    element-write-head
-    element-write-head-2
-    element-write-head-3
     cast-head
+    element-write-head
+    cast-head-2
+    element-write-head-2
+    cast-head-3
+    element-write-head-3
     element-write-head-4
     enum-known-cause
     refused-requires
