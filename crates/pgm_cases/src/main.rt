@@ -1,5 +1,5 @@
-// Reads files and writes into buffers of every kind that the reader and the writer tell apart, and prints each answer on a line: what was
-// found or the number of the cause, and the bytes of the raster or of the buffer. Before a call the buffer is lent full of 1.
+// Reads pictures of files and writes into buffers of every kind that the reader and the writer tell apart, and prints each answer on a
+// line: what was found or the number of the cause, and the bytes of the raster or of the buffer. Before a call the buffer is lent full of 1.
 ghost use mathlib.Core.Path.{_≡_};
 ghost use lib.ListN.{length};
 use cases::printing;
@@ -39,10 +39,10 @@ fn written(answer: pgm::Written) {
     }
 }
 
-fn reads(name: &[u8], file: &[u8]) {
+fn reads(name: &[u8], file: &[u8], number: usize) {
     printing::text(name);
-    found(pgm::read(file));
-    bytes(pgm::raster(file));
+    found(pgm::read(file, number));
+    bytes(pgm::raster(file, number));
     printing::text(b"\n");
 }
 
@@ -53,33 +53,38 @@ fn writes(name: &[u8], picture: &[u8], width: u32, height: u32, maximum: u32, bu
     printing::text(b"\n");
 }
 
+// The file and the number of the picture.
 fn read_case(line: &[u8]) {
     let mut memory = [0u8; 64];
-    reads(table::field(line, 0), table::text(line, 1, &mut memory));
+    reads(
+        table::field(line, 0),
+        table::text(line, 1, &mut memory),
+        table::number(line, 2) as usize,
+    );
 }
 
 // The picture, its numbers and how many bytes the call is lent; then what reading the buffer back is named, if it is to be read.
 fn write_case(line: &[u8]) {
     let mut greys = [0u8; 3];
     let mut memory = [1u8; 16];
-    let buffer = table::lent_bytes(line, 6, &mut memory);
+    let buffer = table::lent_bytes(line, 7, &mut memory);
     writes(
         table::field(line, 0),
-        table::bytes(line, 2, &mut greys),
-        table::number(line, 3),
+        table::bytes(line, 3, &mut greys),
         table::number(line, 4),
         table::number(line, 5),
+        table::number(line, 6),
         buffer,
     );
-    let again = table::field(line, 7);
+    let again = table::field(line, 8);
     if 0 < again.len() {
-        reads(again, buffer);
+        reads(again, buffer, 1);
     }
 }
 
 // A line of the table names the file to read, or the picture to write.
 fn case(line: &[u8]) {
-    if 0 < table::field(line, 2).len() {
+    if 0 < table::field(line, 3).len() {
         write_case(line);
         return;
     }
@@ -105,11 +110,26 @@ fn largest() {
     let picture = io::large_buffer();
     let mut buffer = room();
     writes(b"widest picture", &picture, 4096, 16, 200, &mut buffer);
-    reads(b"widest picture read back", &buffer);
+    reads(b"widest picture read back", &buffer, 1);
+}
+
+// Two pictures written end to end into one buffer, the second from `next` on, and read back by number.
+fn sequence(buffer: &mut [u8], next: usize) {
+    if buffer.len() < next {
+        return;
+    }
+    writes(b"first written", b"abc", 3, 1, 255, &mut buffer[..next]);
+    writes(b"second written", b"AB", 1, 2, 99, &mut buffer[next..]);
+    reads(b"written, number 1", buffer, 1);
+    reads(b"written, number 2", buffer, 2);
+    reads(b"written, number 3", buffer, 3);
+    reads(b"written, number 0", buffer, 0);
 }
 
 fn main() {
     let mut memory = io::large_buffer();
     each(table::read(&mut memory));
     largest();
+    let mut two = [1u8; 26];
+    sequence(&mut two, 14);
 }
