@@ -79,7 +79,10 @@ static void *lend(size_t entries, size_t size) {
     return memory;
 }
 
-/* The whole file, however long: several pictures have no greatest length, and that of a pipe is not known before its end. */
+/*
+ * The whole file, however long: pictures end to end have no greatest length, and that of a pipe is not known before its end. A file that
+ * does not start with P5 is refused whatever follows, so it is not read on: it may have no end.
+ */
 static uint8_t *read_file(const char *name, size_t *length) {
     size_t room = FIRST_ROOM;
     uint8_t *bytes = lend(room, 1);
@@ -87,7 +90,7 @@ static uint8_t *read_file(const char *name, size_t *length) {
     if (file == NULL)
         fail(REFUSED, "%s: cannot be read: %s", name, strerror(errno));
     *length = fread(bytes, 1, room, file);
-    while (*length == room) {
+    while (*length == room && memcmp(bytes, "P5", 2) == 0) {
         if (room > SIZE_MAX / 2 || (bytes = realloc(bytes, 2 * room)) == NULL)
             fail(REFUSED, "%s: too long for the memory that there is", name);
         room *= 2;
