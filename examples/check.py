@@ -107,7 +107,7 @@ COMBINED_THREADS = (
 BURST = [ROW, Picture(2, 2, 9, b"\1\x09\0\5"), Picture(3, 2, 80, b"P5 1 1"), CORNERS]
 BURST_FILES = [FILE, b"P5\t#2 2\r\n002 #P5\n#\n0000002\r9\n\1\x09\0\5", b"P5 3 2 80 P5 1 1", CORNERS_FILE]
 
-# What no file can go on with after a raster: each cause, in the order in which a picture is judged.
+# What no file can start with, or go on with after a raster, and the cause, in the order in which a picture is judged.
 FAULTS = [
     (8, b"\n"), (8, b"P"), (8, b"p5 1 1 9 \0"), (8, b"\nP5 1 1 9 \0"), (8, b"#P5\n"), (8, b"P2 1 1 9 0\n"),
     (9, b"P5"), (9, b"P5 0 0 0"), (9, b"P51 1 9 \0"), (9, b"P5 1 1 9#\n\0"), (9, b"P5 1 00000001 9 \0"), (9, b"P5 #"),
@@ -612,10 +612,10 @@ class Bursts(unittest.TestCase):
     def test_each_picture_by_its_number(self):
         for count in range(1, 1 + len(BURST)):
             file = b"".join(BURST_FILES[:count])
-            for kind in bytes, bytearray, lambda contents: memoryview(bytearray(contents)):
-                self.assertEqual([teldruf.read(kind(file), number) for number in range(1, 1 + count)], BURST[:count])
-                self.assertEqual(teldruf.read(kind(file)), BURST[0])
-                self.assertEqual(list(teldruf.pictures(kind(file))), BURST[:count])
+            for contents in file, bytearray(file), memoryview(file), memoryview(bytearray(b"0" + file))[1:]:
+                self.assertEqual([teldruf.read(contents, number) for number in range(1, 1 + count)], BURST[:count])
+                self.assertEqual(teldruf.read(contents), BURST[0])
+                self.assertEqual(list(teldruf.pictures(contents)), BURST[:count])
             for number in 0, count + 1, 2 ** 32, 2 ** 32 + 1, 2 ** 63 + 1, 2 ** 64 - 1:
                 self.assertEqual(answer(teldruf.read, file, number), 18)
 
@@ -633,10 +633,8 @@ class Bursts(unittest.TestCase):
                 for number in 0, 1, count, count + 1, count + 2, 2 ** 64 - 1:
                     self.assertEqual(answer(teldruf.read, file + fault, number), cause)
                 self.assertEqual(answer(next, teldruf.pictures(file + fault)), cause)
-                if cause == 11:
-                    continue  # what follows would be raster
                 for _, further in FAULTS:
-                    self.assertEqual(plainly_read(file + fault + further, 1), answer(teldruf.read, file + fault + further))
+                    self.assertEqual(answer(teldruf.read, file + fault + further), plainly_read(file + fault + further, 1))
         for number in 0, 1, 2:
             self.assertEqual(answer(teldruf.read, b"", number), 8)
 
@@ -657,7 +655,7 @@ class Bursts(unittest.TestCase):
 
     def test_what_is_written_end_to_end_is_read_back(self):
         random = Random(3)
-        for count in *range(1, 18), 31, 32, 33, 1000:
+        for count in [*range(1, 18), 31, 32, 33, 1000]:
             written = []
             for _ in range(count):
                 width, height, maximum = random.randint(1, 5), random.randint(1, 5), random.randint(1, 255)
