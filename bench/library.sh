@@ -1,4 +1,4 @@
-# What bench/run and bench/places share. $here is this folder, $out the one for what is made.
+# What bench/run, bench/places and bench/reading share. $here is this folder, $out the one for what is made.
 # shellcheck shell=sh
 
 # built ROOT: the static library of a checkout
@@ -32,4 +32,9 @@ known() {
     else
         echo MAP_4
     fi
+}
+
+# numbered ROOT: 2 if the reader of a checkout takes the number of a picture, else 1, as BEFORE in reading.c
+numbered() {
+    if grep -q TELDRUF_PICTURE_NUMBER "$1/include/teldruf.h"; then echo 2; else echo 1; fi
 }

@@ -4,6 +4,9 @@
 """
 
 import os
+import re
+import resource
+import shutil
 import struct
 import subprocess
 import sys
@@ -12,6 +15,7 @@ import unittest
 import zlib
 from operator import ge
 from random import Random
+from unittest import mock
 
 HERE = os.path.dirname(os.path.abspath(__file__))
 sys.path.insert(0, os.path.join(HERE, os.pardir, "python"))
@@ -96,6 +100,73 @@ COMBINED_THREADS = (
     ringed(0, [3, 0, 2, 2, 2], [3, 0, 0, 0, 0], [3, 0, 4, 4, 0], [0, 0, 4, 4, 0]),
     ringed(0, [30, 0, -40, -40, -40], [30, 0, 0, 0, 0], [30, 0, 50, 50, 0], [0, 0, 50, 50, 0]),
 )
+
+
+# Pictures and their files, by hand, with headers of several forms: leading zeros, tabs and comments, and a raster that looks like a header.
+# End to end they are one file, a burst.
+BURST = [ROW, Picture(2, 2, 9, b"\1\x09\0\5"), Picture(3, 2, 80, b"P5 1 1"), CORNERS]
+BURST_FILES = [FILE, b"P5\t#2 2\r\n002 #P5\n#\n0000002\r9\n\1\x09\0\5", b"P5 3 2 80 P5 1 1", CORNERS_FILE]
+
+# What no file can start with, or go on with after a raster, and the cause, in the order in which a picture is judged.
+FAULTS = [
+    (8, b"\n"), (8, b"P"), (8, b"p5 1 1 9 \0"), (8, b"\nP5 1 1 9 \0"), (8, b"#P5\n"), (8, b"P2 1 1 9 0\n"),
+    (9, b"P5"), (9, b"P5 0 0 0"), (9, b"P51 1 9 \0"), (9, b"P5 1 1 9#\n\0"), (9, b"P5 1 00000001 9 \0"), (9, b"P5 #"),
+    (10, b"P5 0 0 0\n"), (10, b"P5 0 1 256 "), (1, b"P5 0 1 9 "), (1, b"P5 1 4097 9 "), (1, b"P5 1025 1024 255\n"),
+    (11, b"P5 1 1 9 "), (11, b"P5 2 1 9 \xff"), (12, b"P5 2 1 9 \x09\x0a"),
+]
+
+WHITE, DIGITS = rb"[\t\n\r ]", rb"([0-9]{1,7})"
+GAP = WHITE + rb"(?:" + WHITE + rb"|#[^\n\r]*[\n\r])*"
+HEADER = re.compile(rb"P5" + (GAP + DIGITS) * 3 + WHITE)
+
+# Netpbm's programs that make the files of a burst, with their words and what they are given.
+NETPBM = [(["rawtopgm", "7", "3"], GREYS), (["pgmramp", "-lr", "40", "3"], b""), (["pgmnoise", "5", "4"], b"")]
+
+
+def plainly_read(file, number):
+    """The Picture of a number in a file, as it is defined; where the file is refused, the number of the cause."""
+    found, start = [], 0
+    while start < len(file) or not found:
+        if file[start:start + 2] != b"P5":
+            return 8
+        header = HEADER.match(file, start)
+        if header is None:
+            return 9
+        width, height, maximum = [int(digits) for digits in header.groups()]
+        if not 1 <= maximum <= 255:
+            return 10
+        if not (1 <= width <= 4096 and 1 <= height <= 4096 and width * height <= 1048576):
+            return 1
+        start = header.end() + width * height
+        if start > len(file):
+            return 11
+        raster = file[header.end():start]
+        if max(raster) > maximum:
+            return 12
+        found.append(Picture(width, height, maximum, raster))
+    return found[number - 1] if 1 <= number <= len(found) else 18
+
+
+def answer(call, *words):
+    """What a call gives; where it is refused, the number of the cause."""
+    try:
+        return call(*words)
+    except teldruf.Refused as refusal:
+        return refusal.number
+
+
+def random_burst(random):
+    """Pictures end to end, mostly with a byte more, less or changed, or cut short."""
+    file = b""
+    for _ in range(random.randint(1, 4)):
+        width, height, maximum = random.randint(1, 4), random.randint(1, 4), random.choice((9, 80, 255))
+        gaps = random.choices((b" ", b"\n", b"\t\r ", b" #P5 9\n", b"\r##\r\n"), k=3)
+        greys = [grey for grey in b"P5 \n#019\x09\xff" if grey <= maximum]
+        header = b"P5" + b"".join(gap + str(side).encode() for gap, side in zip(gaps, (width, height, maximum)))
+        file += header + random.choice((b" ", b"\n")) + bytes(random.choices(greys, k=width * height))
+    at, byte = random.randrange(len(file)), bytes([random.choice(b"P5 \n#019\xff")])
+    return random.choice([file, file, file[:at], file + byte, file[:at] + byte + file[at:], file[:at] + byte + file[at + 1:],
+                          file[:at] + file[at + 1:]])
 
 
 def listed(maps):
@@ -537,6 +608,107 @@ class Module(unittest.TestCase):
                 teldruf.map(row, bad)
 
 
+class Bursts(unittest.TestCase):
+    def test_each_picture_by_its_number(self):
+        for count in range(1, 1 + len(BURST)):
+            file = b"".join(BURST_FILES[:count])
+            for contents in file, bytearray(file), memoryview(file), memoryview(bytearray(b"0" + file))[1:]:
+                self.assertEqual([teldruf.read(contents, number) for number in range(1, 1 + count)], BURST[:count])
+                self.assertEqual(teldruf.read(contents), BURST[0])
+                self.assertEqual(list(teldruf.pictures(contents)), BURST[:count])
+            for number in 0, count + 1, 2 ** 32, 2 ** 32 + 1, 2 ** 63 + 1, 2 ** 64 - 1:
+                self.assertEqual(answer(teldruf.read, file, number), 18)
+
+    def test_numbers_are_never_cut(self):
+        file = b"".join(BURST_FILES)
+        for bad, kind in [(-1, ValueError), (2 ** 64, ValueError), (2 ** 64 + 1, ValueError), (1 - 2 ** 64, ValueError),
+                          (True, TypeError), (1.0, TypeError), ("1", TypeError), (None, TypeError)]:
+            with self.subTest(bad), self.assertRaises(kind):
+                teldruf.read(file, bad)
+
+    def test_the_first_fault_decides_whichever_picture_is_named(self):
+        for count in range(len(BURST)):
+            file = b"".join(BURST_FILES[:count])
+            for cause, fault in FAULTS:
+                for number in 0, 1, count, count + 1, count + 2, 2 ** 64 - 1:
+                    self.assertEqual(answer(teldruf.read, file + fault, number), cause)
+                self.assertEqual(answer(next, teldruf.pictures(file + fault)), cause)
+                for _, further in FAULTS:
+                    self.assertEqual(answer(teldruf.read, file + fault + further), plainly_read(file + fault + further, 1))
+        for number in 0, 1, 2:
+            self.assertEqual(answer(teldruf.read, b"", number), 8)
+
+    def test_files_are_read_as_they_are_defined(self):
+        random, causes = Random(18), set()
+        whole = b"".join(BURST_FILES)
+        for file in [whole[:length] for length in range(len(whole))] + [random_burst(random) for _ in range(2000)]:
+            for number in 0, 1, 2, 3, 4, 5, 2 ** 32 + 1, 2 ** 64 - 1:
+                expected = plainly_read(file, number)
+                self.assertEqual(answer(teldruf.read, file, number), expected, (file, number))
+                causes.add(expected if isinstance(expected, int) else 0)
+            found = answer(list, teldruf.pictures(file))
+            self.assertEqual(found[0] if isinstance(found, list) else found, plainly_read(file, 1))
+            if isinstance(found, list):
+                self.assertEqual(found, [plainly_read(file, number) for number in range(1, 1 + len(found))])
+                self.assertEqual(plainly_read(file, len(found) + 1), 18)
+        self.assertEqual(causes, {0, 1, 8, 9, 10, 11, 12, 18})
+
+    def test_what_is_written_end_to_end_is_read_back(self):
+        random = Random(3)
+        for count in [*range(1, 18), 31, 32, 33, 1000]:
+            written = []
+            for _ in range(count):
+                width, height, maximum = random.randint(1, 5), random.randint(1, 5), random.randint(1, 255)
+                greys = bytes(random.randint(0, maximum) for _ in range(width * height))
+                written.append(Picture(width, height, maximum, greys))
+            file = b"".join(teldruf.write(picture) for picture in written)
+            self.assertEqual(list(teldruf.pictures(file)), written)
+            for number in {1, (1 + count) // 2, count}:
+                self.assertEqual(teldruf.read(file, number), written[number - 1])
+            self.assertEqual([answer(teldruf.read, file, number) for number in (0, count + 1)], [18, 18])
+
+    def test_pictures_are_handed_out_one_by_one(self):
+        file = bytearray(b"".join(BURST_FILES))
+        burst = teldruf.pictures(file)
+        self.assertIs(iter(burst), burst)
+        file[:] = bytes(len(file))  # a copy was taken
+        self.assertEqual([next(burst) for _ in BURST], BURST)
+        self.assertRaises(StopIteration, next, burst)
+        refused = teldruf.pictures(b"".join(BURST_FILES) + b"\n")
+        self.assertEqual(answer(next, refused), 8)
+        self.assertRaises(StopIteration, next, refused)
+        for wrong in "P5", None, memoryview(FILE).cast("b"):
+            self.assertRaises(TypeError, teldruf.pictures, wrong)  # at once, before one is asked for
+
+    def test_a_byte_is_judged_once_a_halving(self):
+        lent, call = [], teldruf._call
+
+        def counting(name, start, length, *words):
+            lent.append(length)
+            return call(name, start, length, *words)
+
+        file = b"P5 1 1 9 \5" * 2000
+        with mock.patch.object(teldruf, "_call", counting):
+            self.assertEqual(sum(1 for _ in teldruf.pictures(file)), 2000)
+        self.assertLess(sum(lent), 26 * len(file))  # 12 numbers are tried, and 12 halvings
+
+    @unittest.skipUnless(all(shutil.which(words[0]) for words, _ in NETPBM), "Netpbm's rawtopgm, pgmramp and pgmnoise are not installed")
+    def test_files_of_netpbm_put_end_to_end_by_cat(self):
+        with tempfile.TemporaryDirectory() as folder:
+            names = [os.path.join(folder, words[0] + ".pgm") for words, _ in NETPBM]
+            for name, (words, given) in zip(names, NETPBM):
+                with open(name, "wb") as file:
+                    subprocess.run(words, input=given, stdout=file, check=True)
+            files = [subprocess.run(["cat", name], stdout=subprocess.PIPE, check=True).stdout for name in names]
+            burst = subprocess.run(["cat", *names], stdout=subprocess.PIPE, check=True).stdout
+        alone = [teldruf.read(file) for file in files]
+        self.assertEqual([(picture.width, picture.height) for picture in alone], [(7, 3), (40, 3), (5, 4)])
+        self.assertEqual(alone[0].raster, GREYS)
+        self.assertEqual([teldruf.read(burst, number) for number in (1, 2, 3)], alone)
+        self.assertEqual(list(teldruf.pictures(burst)), alone)
+        self.assertEqual([answer(teldruf.read, burst, number) for number in (0, 4)], [18, 18])
+
+
 class Hosts(unittest.TestCase):
     def setUp(self):
         folder = tempfile.TemporaryDirectory()
@@ -563,11 +735,11 @@ class Hosts(unittest.TestCase):
             os.remove(name)
         return found
 
-    def fails(self, status, words, *arguments):
+    def fails(self, status, words, *arguments, **limits):
         """Both hosts end with this status and the same single sentence, in which these words stand."""
         sentences = set()
         for host in HOSTS:
-            ended = subprocess.run([*host, *arguments], capture_output=True, text=True, timeout=60)
+            ended = subprocess.run([*host, *arguments], capture_output=True, text=True, timeout=60, **limits)
             self.assertEqual((ended.returncode, ended.stdout), (status, ""), ended.stderr)
             sentences.add(ended.stderr)
         self.assertEqual(len(sentences), 1, sentences)
@@ -615,6 +787,45 @@ class Hosts(unittest.TestCase):
             residue, index, contrast = COMBINED_THREADS
             self.assertEqual(self.contents(self.contrast), [residue_head + residue, index_head + index_bytes(index),
                                                             contrast_head + contrast_bytes(contrast)])
+
+    def test_each_picture_of_a_burst_has_the_maps_of_its_own_file(self):
+        names = [self.file(f"{number}.pgm", contents) for number, contents in enumerate(BURST_FILES, 1)]
+        names += [os.path.join(FOLDER, "basin.pgm"), os.path.join(FOLDER, "backlit.pgm")]
+        with open(self.path("burst.pgm"), "wb") as file:
+            subprocess.run(["cat", *names], stdout=file, check=True)
+        for host in HOSTS:
+            for sides, more in ([], []), (["--dark"], []), (["--combined", self.contrast], [self.contrast]):
+                for number, name in enumerate(names, 1):
+                    words = *self.out, "area", "neighbours=8", "gap=1", "2", "8", "64"
+                    subprocess.run([*host, *sides, name, *words], check=True)
+                    expected = self.contents(*more)
+                    for named in [["--picture", str(number)], ["--picture", str(number).zfill(20)]] + [[]] * (number == 1):
+                        subprocess.run([*host, *sides, *named, self.path("burst.pgm"), *words], check=True)
+                        self.assertEqual(self.contents(*more), expected)
+
+    def test_a_burst_may_be_long_and_come_through_a_pipe(self):
+        large = Picture(1024, 1024, 255, bytes(1024 * 1024))
+        file = self.file("long.pgm", teldruf.write(large) * 9 + FILE)
+        for host in HOSTS:
+            subprocess.run([*host, "--picture", "10", file, *self.out, "area", "1", "2", "3", "4"], check=True)
+            found = self.contents()
+            self.assertEqual(found, [b"P5\n7 3\n255\n" + RESIDUE, b"P5\n7 3\n256\n" + index_bytes(INDEX)])
+            with subprocess.Popen(["cat", file], stdout=subprocess.PIPE) as cat:
+                subprocess.run([*host, "--picture", "10", "/dev/stdin", *self.out, "area", "1", "2", "3", "4"], stdin=cat.stdout, check=True)
+            self.assertEqual(self.contents(), found)
+
+    def test_refused_bursts(self):
+        for number, named, contents in [
+            (18, "0", FILE), (18, "2", FILE), (18, "3", FILE * 2), (18, "4294967297", FILE), (18, "18446744073709551615", FILE),
+            (8, "1", FILE + b"\n"), (8, "2", FILE * 2 + b"\n"), (8, "0", b""), (8, "1", FILE + b"\n" + FILE),
+            (9, "1", FILE + b"P5"), (10, "1", FILE + b"P5 1 1 256\n\0\0"), (1, "1", FILE + b"P5 0 1 9 "),
+            (11, "1", FILE + FILE[:-1]), (11, "0", FILE + FILE[:-1]), (12, "1", FILE + b"P5 1 1 9 \x0a"),
+        ]:
+            picture = self.file("refused.pgm", contents)
+            for sides in [], ["--dark"], ["--combined", self.contrast]:
+                words = *sides, "--picture", named, picture, *self.out, "area", "1"
+                self.fails(1, f"refused {number}: {teldruf.cause_text(number)}", *words)
+        self.assertFalse(any(os.path.exists(name) for name in (*self.out, self.contrast)))
 
     def test_hosts_agree_on_a_basin_by_triples(self):
         found = []
@@ -716,18 +927,34 @@ class Hosts(unittest.TestCase):
             ("--dark", ("--dark", "--dark", *files)),
             ("--dark", (self.picture, "--dark", self.out[0])),
             ("--combined", (*self.out, "--combined")),
+            ("--picture", ("--picture", "1", "--picture", "1", *files)),
+            ("--picture", ("--combined", "--picture", "1", *files)),
+            ("--picture", (self.picture, "--picture", "1", *self.out)),
+            ("--dark", ("--picture", "1", "--dark", *files)),
+            ("--combined", ("--picture", "1", "--combined", self.contrast, *files)),
+            ("--picture=1", ("--picture=1", *files)),
+            ("--pictures", ("--pictures", "1", *files)),
             ("--light", ("--light", *files)),
             ("--dark=", ("--dark=", *files)),
             ("--", ("--", *files)),
         ]:
             self.fails(2, f"'{word}' is no file", *words, "area", "1", "2")
         self.fails(2, "'1' is no attribute", "--combined", *files, "area", "1", "2")  # without the contrast's file
+        for word in [
+            "", "x", "1x", "-1", "+1", " 1", "1 ", "0x1", "1.0", "1,2", "first", self.picture, "--dark", "18446744073709551616",
+            "99999999999999999999", "000000000000000000001", "184467440737095516170",
+        ]:
+            for sides in [], ["--dark"], ["--combined", self.contrast]:
+                self.fails(2, f"'{word}' numbers no picture", *sides, "--picture", word, *files, "area", "1")
         self.fails(2, "'--dark' is no step", *files, "area", "1", "--dark")
         for host in HOSTS:
             for words in [
                 [], files, [*files, "area"], [*files, "area", "neighbours=8"], [*files, "area", "gap=2"], [*files, "triple"],
                 ["--dark"], ["--dark", *files, "area"], ["--combined"], ["--combined", self.contrast],
                 ["--combined", self.contrast, *files, "area"], ["--combined", *files, "area", "1"],
+                ["--picture"], ["--picture", "1"], ["--picture", "1", *files, "area"], ["--picture", *files, "area", "1"],
+                ["--dark", "--picture"], ["--dark", "--picture", "1", *files, "area"],
+                ["--combined", self.contrast, "--picture", "1", *files, "area"],
             ]:
                 ended = subprocess.run([*host, *words], capture_output=True, text=True)
                 self.assertEqual(ended.returncode, 2)
@@ -763,7 +990,13 @@ class Hosts(unittest.TestCase):
     def test_files_that_cannot_be_read(self):
         self.fails(1, "cannot be read: Is a directory", self.folder, *self.out, "area", "1")
         self.fails(1, "cannot be read: No such file", self.path("missing.pgm"), *self.out, "area", "1")
-        self.fails(1, "a header and 1048576 bytes", "/dev/zero", *self.out, "area", "1")
+        self.fails(1, "refused 8", "/dev/zero", *self.out, "area", "1")  # which has no end
+
+    def test_a_file_longer_than_the_memory(self):
+        long, most = self.file("long.pgm", b"P5 "), 2 ** 29
+        os.truncate(long, 8 * most)  # of which the disk has the first bytes alone
+        self.fails(1, "long.pgm: too long for the memory that there is", long, *self.out, "area", "1",
+                   preexec_fn=lambda: resource.setrlimit(resource.RLIMIT_AS, (most, most)))
 
     def test_files_that_cannot_be_written(self):
         large = self.file("large.pgm", b"P5 1024 1024 255\n" + bytes(1024 * 1024))
@@ -842,4 +1075,7 @@ class Colours(unittest.TestCase):
 
 if __name__ == "__main__":
     teldruf.load(LIBRARY)
-    unittest.main()
+    result = unittest.main(exit=False).result
+    for test, why in result.skipped:
+        print(f"skipped: {test}: {why}")
+    sys.exit(not result.wasSuccessful())

@@ -1,8 +1,9 @@
 /*
  * Maps a picture of any size within the bounds: the residue map and the index map of a PGM file, as PGM files.
  *
- *   host [--dark | --combined CONTRAST] PICTURE RESIDUE INDEX area|height|width|triple [neighbours=4|8] [gap=GAP] STEP..
+ *   host [--dark | --combined CONTRAST] [--picture N] PICTURE RESIDUE INDEX area|height|width|triple [neighbours=4|8] [gap=GAP] STEP..
  *
+ * The file PICTURE may hold several pictures end to end: the Nth is mapped, from 1, the first where none is named, if all are without fault.
  * A step is a number, such as 8; where `triple` stands for the attribute it is an area, a height and a width together, such as 8,3,0.
  * The maps are of light floc, with --dark of dark floc, with --combined of both. The residue map has a byte a sample, the index map
  * two, the high one first, and the maximum 256, so that every index is kept. The contrast is a picture for people, a PPM file: light
@@ -19,8 +20,8 @@
 
 enum { REFUSED = 1, WRONG_USE = 2 };
 
-/* The largest file that is read: beside the largest raster there is room for a header with a mebibyte of comments. */
-enum { MOST_FILE = 2 * TELDRUF_MOST_PIXELS };
+/* The room that is made at first for a file: enough for the largest picture and some comments in its header. */
+enum { FIRST_ROOM = 2 * TELDRUF_MOST_PIXELS };
 
 enum { MOST_INDEX = TELDRUF_MOST_STEPS };
 
@@ -38,6 +39,7 @@ typedef struct {
     int dark;
     const char *contrast; /* a file if light and dark are combined, else null */
     const char *picture, *residue, *index;
+    uint64_t number; /* of the picture in its file */
     uint32_t attribute, neighbours, gap, *steps;
     size_t steps_len; /* in words, of which a triple has three */
 } task_t;
@@ -77,17 +79,25 @@ static void *lend(size_t entries, size_t size) {
     return memory;
 }
 
+/*
+ * The whole file, however long: pictures end to end have no greatest length, and that of a pipe is not known before its end. A file that
+ * does not start with P5 is refused whatever follows, so it is not read on: it may have no end.
+ */
 static uint8_t *read_file(const char *name, size_t *length) {
-    uint8_t *bytes = lend(MOST_FILE + 1, 1);
+    size_t room = FIRST_ROOM;
+    uint8_t *bytes = lend(room, 1);
     FILE *file = fopen(name, "rb");
     if (file == NULL)
         fail(REFUSED, "%s: cannot be read: %s", name, strerror(errno));
-    *length = fread(bytes, 1, MOST_FILE + 1, file);
+    *length = fread(bytes, 1, room, file);
+    while (*length == room && memcmp(bytes, "P5", 2) == 0) {
+        if (room > SIZE_MAX / 2 || (bytes = realloc(bytes, 2 * room)) == NULL)
+            fail(REFUSED, "%s: too long for the memory that there is", name);
+        room *= 2;
+        *length += fread(bytes + *length, 1, room - *length, file);
+    }
     if (ferror(file))
         fail(REFUSED, "%s: cannot be read: %s", name, strerror(errno));
-    if (*length > MOST_FILE)
-        fail(REFUSED, "%s: longer than %d bytes; the largest file that is accepted is a header and %d bytes", name, MOST_FILE,
-             TELDRUF_MOST_PIXELS);
     fclose(file);
     return bytes;
 }
@@ -101,12 +111,12 @@ static void write_file(const char *name, const uint8_t *bytes, size_t length) {
         fail(REFUSED, "%s: cannot be written whole: %s", name, strerror(errno));
 }
 
-static picture_t read_picture(const char *name) {
+static picture_t read_picture(const char *name, uint64_t number) {
     size_t length;
     uint8_t *file = read_file(name, &length);
-    uint32_t head[4];
-    accepted(teldruf_read_pgm(file, length, head), name);
-    return (picture_t){head[0], head[1], (size_t)head[0] * head[1], file + head[3]};
+    uint64_t head[4];
+    accepted(teldruf_read_pgm(file, length, number, head), name);
+    return (picture_t){(uint32_t)head[0], (uint32_t)head[1], (size_t)(head[0] * head[1]), file + head[3]};
 }
 
 static void write_residue(const char *name, const picture_t *picture, const uint8_t *residue) {
@@ -156,14 +166,28 @@ static uint32_t attribute_named(const char *word) {
     fail(WRONG_USE, "'%s' is no attribute: area, height, width or triple", word);
 }
 
-/* A number is 1 to 10 digits and nothing else up to its end, and has 32 bits; whether it is a step, 4 or 8 or a gap the library judges. */
-static int is_number(const char *word, char end, uint32_t *number) {
+/* A number is 1 to so many digits and nothing else up to its end, and not above the largest. */
+static int is_number_to(const char *word, char end, size_t most_digits, uint64_t most, uint64_t *number) {
     size_t digits = strspn(word, "0123456789");
-    uint64_t value = 0;
-    for (size_t i = 0; i < digits && i < 10; i++)
-        value = 10 * value + (uint64_t)(word[i] - '0');
+    if (digits < 1 || digits > most_digits || word[digits] != end)
+        return 0;
+    *number = 0;
+    for (size_t i = 0; i < digits; i++) {
+        uint64_t digit = (uint64_t)(word[i] - '0');
+        if (*number > (most - digit) / 10)
+            return 0;
+        *number = 10 * *number + digit;
+    }
+    return 1;
+}
+
+/* A number of 32 bits; whether it is a step, 4 or 8 or a gap the library judges. */
+static int is_number(const char *word, char end, uint32_t *number) {
+    uint64_t value;
+    if (!is_number_to(word, end, 10, UINT32_MAX, &value))
+        return 0;
     *number = (uint32_t)value;
-    return digits >= 1 && digits <= 10 && word[digits] == end && value <= UINT32_MAX;
+    return 1;
 }
 
 /* A triple is three numbers with a comma after the first and the second. */
@@ -191,6 +215,14 @@ static int starts(int count, char **words, int place, const char *start) {
     return count > place && strncmp(words[place], start, strlen(start)) == 0;
 }
 
+/* A picture's number has 64 bits; whether the file has such a picture the library judges. */
+static uint64_t picture_named(const char *word) {
+    uint64_t number;
+    if (!is_number_to(word, '\0', 20, UINT64_MAX, &number))
+        fail(WRONG_USE, "'%s' numbers no picture: pictures have whole numbers from 1, in 1 to 20 digits and nothing else", word);
+    return number;
+}
+
 static uint32_t neighbours_named(const char *word) {
     uint32_t neighbours;
     if (!is_number(word + strlen(naming_neighbours), '\0', &neighbours))
@@ -207,19 +239,23 @@ static uint32_t gap_named(const char *word) {
 
 static const char *file_named(const char *word) {
     if (strncmp(word, "--", 2) == 0)
-        fail(WRONG_USE, "'%s' is no file: one of --dark and --combined may stand first, and nothing else starts with --", word);
+        fail(WRONG_USE, "'%s' is no file: one of --dark and --combined may stand first, then --picture, and nothing else starts with --",
+             word);
     return word;
 }
 
 static task_t read_words(int count, char **words) {
     int dark = count > 1 && strcmp(words[1], "--dark") == 0, combined = count > 1 && strcmp(words[1], "--combined") == 0;
-    int files = 1 + dark + 2 * combined;                                         /* where the picture is named */
+    int sides = 1 + dark + 2 * combined;                                         /* where a picture may be numbered */
+    int numbered = count > sides && strcmp(words[sides], "--picture") == 0;
+    int files = sides + 2 * numbered;                                            /* where the picture's file is named */
     int second = files + 4 + starts(count, words, files + 4, naming_neighbours); /* where a gap may be named */
     int first = second + starts(count, words, second, naming_gap);               /* where the steps start */
     if (count <= first)
-        fail(WRONG_USE, "usage: [--dark | --combined CONTRAST] PICTURE RESIDUE INDEX area|height|width|triple [neighbours=4|8] [gap=GAP] "
-                        "STEP..");
+        fail(WRONG_USE, "usage: [--dark | --combined CONTRAST] [--picture N] PICTURE RESIDUE INDEX area|height|width|triple "
+                        "[neighbours=4|8] [gap=GAP] STEP..");
     task_t task = {.dark = dark, .contrast = combined ? file_named(words[2]) : NULL};
+    task.number = numbered ? picture_named(words[sides + 1]) : 1;
     task.picture = file_named(words[files]);
     task.residue = file_named(words[files + 1]);
     task.index = file_named(words[files + 2]);
@@ -259,7 +295,7 @@ static uint64_t map_by_triples(const task_t *task, const picture_t *picture, con
 
 int main(int count, char **words) {
     task_t task = read_words(count, words);
-    picture_t picture = read_picture(task.picture);
+    picture_t picture = read_picture(task.picture, task.number);
     size_t n = picture.n;
     lent_t lent = {.n = n, .workspace_len = TELDRUF_WORDS_A_PIXEL * n};
     lent.workspace = lend(lent.workspace_len, sizeof *lent.workspace);

@@ -1,7 +1,7 @@
 """Maps a picture as host.c does, through the module python/teldruf.py and a shared library that is made from the static one:
 
     gcc -shared -o libteldruf.so -Wl,--whole-archive target/staticlib/libteldruf.a -Wl,--no-whole-archive
-    python3 examples/host.py ./libteldruf.so [--dark | --combined CONTRAST] PICTURE RESIDUE INDEX \\
+    python3 examples/host.py ./libteldruf.so [--dark | --combined CONTRAST] [--picture N] PICTURE RESIDUE INDEX \\
         area|height|width|triple [neighbours=4|8] [gap=GAP] STEP..
 
 What the words mean, the files that are written and the exit status are host.c's.
@@ -16,9 +16,7 @@ sys.path.insert(0, os.path.join(os.path.dirname(os.path.abspath(__file__)), os.p
 import teldruf
 
 REFUSED, WRONG_USE = 1, 2
-MOST_PIXELS, MOST_INDEX = 1048576, 256
-# The largest file that is read: beside the largest raster there is room for a header with a mebibyte of comments.
-MOST_FILE = 2 * MOST_PIXELS
+MOST_INDEX = 256
 NAMING_NEIGHBOURS, NAMING_GAP = "neighbours=", "gap="
 TRIPLE = "triple"  # stands for an attribute where steps are triples
 
@@ -32,15 +30,16 @@ class Failure(Exception):
 
 
 def read_file(name):
+    """The whole file, however long. One that does not start with P5 is refused whatever follows, so it is not read on: it may have no
+    end."""
     try:
         with open(name, "rb") as file:
-            contents = file.read(MOST_FILE + 1)
+            start = file.peek(2)[:2]
+            return file.read() if b"P5".startswith(start) else start
     except OSError as fault:
         raise Failure(REFUSED, f"{name}: cannot be read: {fault.strerror}")
-    if len(contents) > MOST_FILE:
-        raise Failure(REFUSED, f"{name}: longer than {MOST_FILE} bytes; the largest file that is accepted is a header and "
-                               f"{MOST_PIXELS} bytes")
-    return contents
+    except MemoryError:
+        raise Failure(REFUSED, f"{name}: too long for the memory that there is")
 
 
 def write_file(name, contents):
@@ -71,9 +70,10 @@ def contrast_file(picture, contrast):
     return head + b"".join([colours[c] for c in contrast])
 
 
-def is_number(word):
-    """A number is 1 to 10 digits and nothing else, and has 32 bits; whether it is a step, 4 or 8, or a gap, the library judges."""
-    return re.fullmatch("[0-9]{1,10}", word) is not None and int(word) < 2 ** 32
+def is_number(word, most_digits=10, bits=32):
+    """A number is 1 to so many digits and nothing else, and has so many bits; whether it is a step, 4 or 8, a gap, or a picture's number,
+    the library judges."""
+    return re.fullmatch(f"[0-9]{{1,{most_digits}}}", word) is not None and int(word) < 2 ** bits
 
 
 def step_of(word):
@@ -95,6 +95,12 @@ def starts(words, place, start):
     return len(words) > place and words[place].startswith(start)
 
 
+def picture_named(word):
+    if not is_number(word, 20, 64):
+        raise Failure(WRONG_USE, f"'{word}' numbers no picture: pictures have whole numbers from 1, in 1 to 20 digits and nothing else")
+    return int(word)
+
+
 def neighbours_named(word):
     number = word[len(NAMING_NEIGHBOURS):]
     if not is_number(number):
@@ -111,7 +117,8 @@ def gap_named(word):
 
 def file_named(word):
     if word.startswith("--"):
-        raise Failure(WRONG_USE, f"'{word}' is no file: one of --dark and --combined may stand first, and nothing else starts with --")
+        raise Failure(WRONG_USE, f"'{word}' is no file: one of --dark and --combined may stand first, then --picture, and nothing else "
+                                 "starts with --")
     return word
 
 
@@ -120,6 +127,7 @@ class Task(NamedTuple):
 
     dark: bool
     contrast: Optional[str]
+    number: int
     picture: str
     residue: str
     index: str
@@ -132,13 +140,16 @@ class Task(NamedTuple):
 def read_words(words):
     """The words after the library, which is the first."""
     dark, combined = words[1:2] == ["--dark"], words[1:2] == ["--combined"]
-    files = 1 + dark + 2 * combined  # where the picture is named
+    sides = 1 + dark + 2 * combined  # where a picture may be numbered
+    numbered = words[sides:sides + 1] == ["--picture"]
+    files = sides + 2 * numbered  # where the picture's file is named
     second = files + 4 + starts(words, files + 4, NAMING_NEIGHBOURS)  # where a gap may be named
     first = second + starts(words, second, NAMING_GAP)  # where the steps start
     if len(words) <= first:
-        raise Failure(WRONG_USE, "usage: LIBRARY [--dark | --combined CONTRAST] PICTURE RESIDUE INDEX area|height|width|triple "
-                                 "[neighbours=4|8] [gap=GAP] STEP..")
+        raise Failure(WRONG_USE, "usage: LIBRARY [--dark | --combined CONTRAST] [--picture N] PICTURE RESIDUE INDEX "
+                                 "area|height|width|triple [neighbours=4|8] [gap=GAP] STEP..")
     contrast = file_named(words[2]) if combined else None
+    number = picture_named(words[sides + 1]) if numbered else 1
     picture, residue, index = [file_named(word) for word in words[files:files + 3]]
     attribute = words[files + 3]
     if attribute not in (*teldruf.ATTRIBUTES, TRIPLE):
@@ -146,7 +157,7 @@ def read_words(words):
     neighbours = neighbours_named(words[files + 4]) if second > files + 4 else 4
     gap = gap_named(words[second]) if first > second else 0
     steps = [triple_of(word) if attribute == TRIPLE else step_of(word) for word in words[first:]]
-    return Task(dark, contrast, picture, residue, index, attribute, neighbours, gap, steps)
+    return Task(dark, contrast, number, picture, residue, index, attribute, neighbours, gap, steps)
 
 
 def maps_of(task, picture):
@@ -166,7 +177,7 @@ def main(words):
         raise Failure(REFUSED, f"{words[0]}: cannot be loaded: {fault}")
     contents = read_file(task.picture)
     try:
-        picture = teldruf.read(contents)
+        picture = teldruf.read(contents, task.number)
         maps = maps_of(task, picture)
         residue_file = teldruf.write(picture._replace(maximum=255, raster=maps.residue))
     except teldruf.Refused as refusal:

@@ -37,6 +37,7 @@ enum {
     TELDRUF_SAMPLE = 12,
     TELDRUF_VIEW = 16,
     TELDRUF_NEIGHBOURS = 17,
+    TELDRUF_PICTURE_NUMBER = 18,
     TELDRUF_GAP = 19
 };
 
@@ -98,19 +99,21 @@ static inline const char *teldruf_cause_text(uint32_t number) {
     case TELDRUF_BUFFER:
         return "the writer's buffer shorter than the file";
     case TELDRUF_SIGN:
-        return "the file does not start with P5, so it is no binary PGM";
+        return "no P5 where a picture of the file starts: no binary PGM, or stray bytes after a raster";
     case TELDRUF_HEADER:
         return "the header broken or ended early";
     case TELDRUF_MAXIMUM:
         return "maximum 0 or above 255";
     case TELDRUF_RASTER_LENGTH:
-        return "raster bytes not width x height";
+        return "a raster cut short, with fewer bytes than width x height";
     case TELDRUF_SAMPLE:
         return "a sample above the maximum";
     case TELDRUF_VIEW:
         return "row or side outside its range";
     case TELDRUF_NEIGHBOURS:
         return "neighbourhood neither 4 nor 8";
+    case TELDRUF_PICTURE_NUMBER:
+        return "picture number 0 or above the count of the file's pictures";
     case TELDRUF_GAP:
         return "gap above 256";
     default:
@@ -119,16 +122,20 @@ static inline const char *teldruf_cause_text(uint32_t number) {
 }
 
 /*
- * Reads a binary PGM file. Lent: the file's bytes, any number of them, which are only read; and four words for the head. Accepted:
- * the answer is 0 and head holds width, height, maximum and where the raster starts in the file, modulo 2^32; the raster is the
- * last n bytes of the file. Refused, in this order: 8, 9, 10, 1, 11, 12.
+ * Reads one picture of a binary PGM file, which holds one or more of them end to end. Lent: the file's bytes, any number of them, which
+ * are only read; the number of the picture, from 1; and four words of 64 bits for the head. Every picture of the file is judged, whichever
+ * is named. Accepted: the answer is 0 and head holds width, height and maximum of the picture named, and where its raster starts in the
+ * file, a position that is never cut; the raster is the n bytes from there. Bytes after a raster must be a further picture: a stray byte,
+ * such as a newline at the end of the file, is refused by 8, and so is an empty file. Refused, in this order: 8, 9, 10, 1, 11, 12 for each
+ * picture, of which the first faulty one decides; then 18.
  */
-uint64_t teldruf_read_pgm(const uint8_t *file, size_t file_len, uint32_t head[4]);
+uint64_t teldruf_read_pgm(const uint8_t *file, size_t file_len, uint64_t number, uint64_t head[4]);
 
 /*
  * Writes a picture as a binary PGM file. Lent: the picture, n bytes, which are only read; and a buffer at least as long as the file:
  * n bytes and at most 17 for the header. Accepted: the answer is the number of bytes written at the start of the buffer; those after
- * them are untouched. Refused, in this order: 1, 2, 10, 12, 7.
+ * them are untouched. Several such files end to end are one file, each picture of which is read back by its number. Refused, in this
+ * order: 1, 2, 10, 12, 7.
  */
 uint64_t teldruf_write_pgm(const uint8_t *picture, size_t picture_len, uint32_t width, uint32_t height, uint32_t maximum,
                            uint8_t *buffer, size_t buffer_len);

@@ -9,13 +9,14 @@ What touches the first or last row or column has the size 1,048,577 by every att
 Blurred floc falls at several steps; with a gap above 0, falls at most so many places of the list apart are added up.
 Dark floc on light water has maps of its own, `dark_map`, and `combined_map` takes at each pixel the side of larger contrast.
 A step may be an area, a height and a width together, as in `map_triples(picture, [(8, 0, 0), (16, 3, 3)])`: what meets all three stays.
+A file may hold several pictures end to end: `read(file, 2)` gives the second, `pictures(file)` each of them in turn.
 
 A picture is a Picture, whose raster is bytes or another buffer of bytes (bytearray, memoryview, numpy array of uint8), or a buffer
 of bytes with rows and columns, such as a numpy array of two dimensions. Results are bytes or arrays, row by row; where the greys
 came as a numpy array they are numpy arrays of its shape.
 
 A call that the library refuses raises Refused, with the cause's number and words. An argument that no call could be given raises
-TypeError or ValueError before any call: numbers are whole and fit 32 bits.
+TypeError or ValueError before any call: numbers are whole and fit 32 bits, a picture's number 64.
 
 The shared library is target/libteldruf.so of this checkout unless `load` names another. It is made of the static one:
 
@@ -30,8 +31,8 @@ from array import array
 from typing import Any, NamedTuple
 
 __all__ = ["ATTRIBUTES", "CombinedMaps", "Maps", "Picture", "Refused", "SIDES", "Tree", "Triple", "build", "cause_text", "combined_map",
-           "combined_map_triples", "dark_map", "dark_map_triples", "load", "map", "map_triples", "open", "open_triple", "read",
-           "view_row", "write"]
+           "combined_map_triples", "dark_map", "dark_map_triples", "load", "map", "map_triples", "open", "open_triple", "pictures",
+           "read", "view_row", "write"]
 
 ATTRIBUTES = {"area": 1, "height": 2, "width": 3}
 SIDES = {"light": 1, "dark": 2}
@@ -47,15 +48,18 @@ _CAUSES = {
     5: "workspace not 7 words a pixel",
     6: "an output or a map not one entry a pixel",
     7: "the writer's buffer shorter than the file",
-    8: "the file does not start with P5, so it is no binary PGM",
+    8: "no P5 where a picture of the file starts: no binary PGM, or stray bytes after a raster",
     9: "the header broken or ended early",
     10: "maximum 0 or above 255",
-    11: "raster bytes not width x height",
+    11: "a raster cut short, with fewer bytes than width x height",
     12: "a sample above the maximum",
     16: "row or side outside its range",
     17: "neighbourhood neither 4 nor 8",
+    18: "picture number 0 or above the count of the file's pictures",
     19: "gap above 256",
 }
+
+_PICTURE_NUMBER = 18
 
 _MOST_PIXELS = 1048576
 _WORDS_A_PIXEL = 7
@@ -124,13 +128,16 @@ class CombinedMaps(NamedTuple):
     contrast: Any
 
 
-def read(file):
-    """The Picture in the bytes of a binary PGM file; its raster is bytes."""
-    file = _bytes(file, "a file")
-    head = _zeros("I", 4)
-    _call("read_pgm", *_lend(file), head.buffer_info()[0])
-    width, height, maximum, _ = head
-    return Picture(width, height, maximum, file[len(file) - width * height:].tobytes())
+def read(file, number=1):
+    """The Picture of a number, from 1, in the bytes of a binary PGM file, which holds one or more pictures end to end; its raster is
+    bytes. Every picture of the file is judged, whichever is named: a fault in any of them is refused."""
+    return _picture(_fixed(file, "a file"), _word(number, "a picture's number", 64))
+
+
+def pictures(file):
+    """Each Picture in the bytes of a binary PGM file in turn, as `read` gives it for the numbers 1, 2 and on to the last: a generator. The
+    whole file is judged before it hands out the first, so none is handed out of a file with a fault."""
+    return _each(_fixed(file, "a file"))
 
 
 def write(picture):
@@ -205,6 +212,53 @@ def view_row(light, dark, width, height, row, side):
     return maps[side - 1].cast("B")[start:start + width]
 
 
+def _head(file, number):
+    """Width, height and maximum of a picture of a file, and where its raster starts and ends."""
+    head = _zeros("Q", 4)
+    _call("read_pgm", *_lend_view(file), number, head.buffer_info()[0])
+    width, height, maximum, start = head
+    return width, height, maximum, start, start + width * height
+
+
+def _picture(file, number):
+    width, height, maximum, start, end = _head(file, number)
+    return Picture(width, height, maximum, file[start:end].tobytes())
+
+
+def _end(file, number):
+    """Where a picture of a file ends, None if the file has fewer pictures."""
+    try:
+        return _head(file, number)[-1]
+    except Refused as refusal:
+        if refusal.number != _PICTURE_NUMBER:
+            raise
+        return None
+
+
+def _each(file):
+    """The Pictures of a file in turn. How many there are shows only in that a number is refused."""
+    most = 1
+    while _end(file, most) is not None:
+        most *= 2
+    yield from _each_of(file, most)
+
+
+def _each_of(file, most):
+    """The Pictures in turn of a file that has at most so many, a power of 2. A call judges all that it is lent; so the file is cut after
+    the picture in the middle and its halves are lent by themselves, and each byte is judged once a halving, not once a picture."""
+    if most == 1:
+        yield _picture(file, 1)
+        return
+    half = most // 2
+    end = _end(file, half)
+    if end is None:
+        yield from _each_of(file, half)
+        return
+    yield from _each_of(file[:end], half)
+    if end < len(file):
+        yield from _each_of(file[end:], half)
+
+
 def _opened(name, picture, *named):
     """The output of an opening call with these words after the sides: a Picture if a Picture is given, else its greys."""
     taken, greys = _taken(picture)
@@ -223,15 +277,15 @@ def _mapped(name, codes, picture, named, steps, gap):
     return [_like(picture.raster, output) for output in outputs]
 
 
-# Arguments are judged here as far as they could reach the library as something else: ctypes cuts numbers to 32 bits without a word.
+# Arguments are judged here as far as they could reach the library as something else: ctypes cuts numbers without a word.
 
-def _word(value, what):
-    """A whole number of 32 bits, which every number of a call is."""
+def _word(value, what, bits=32):
+    """A whole number of so many bits: every number of a call has 32, but for a picture's, which has 64."""
     if isinstance(value, bool) or not isinstance(value, numbers.Integral):
         raise TypeError(f"{what} is a whole number, not {value!r}")
     number = int(value)
-    if not 0 <= number < 2 ** 32:
-        raise ValueError(f"{what} is a number of 32 bits, 0 or more, not {number}")
+    if not 0 <= number < 2 ** bits:
+        raise ValueError(f"{what} is a number of {bits} bits, 0 or more, not {number}")
     return number
 
 
@@ -295,6 +349,13 @@ def _bytes(buffer, what):
     return array("B", _view(buffer, what).tobytes())
 
 
+def _fixed(buffer, what):
+    """A view of bytes that nobody else can write while a call reads them: of the buffer itself if it is bytes, so that a long file is
+    not copied, else of a copy."""
+    view = _view(buffer, what)
+    return view if isinstance(buffer, bytes) else memoryview(view.tobytes())
+
+
 def _taken(picture):
     """The picture as a Picture with numbers of 32 bits, and a copy of its greys."""
     if not isinstance(picture, Picture):
@@ -343,7 +404,7 @@ class _Buffer(ctypes.Structure):
 
 def _lend_view(view):
     """The two arguments for bytes that are lent where they are, as long as the view is held. Others may write them meanwhile, so
-    this is for a call whose answer does not depend on them."""
+    this is for bytes that are fixed, or a call whose answer does not depend on them."""
     buffer = _Buffer()
     ctypes.pythonapi.PyObject_GetBuffer(ctypes.py_object(view), ctypes.byref(buffer), 0)
     start = buffer.start
@@ -373,11 +434,11 @@ def load(path):
     """Names the shared library that the calls after this go to."""
     global _loaded
     library = ctypes.CDLL(os.path.abspath(path))
-    word, run = ctypes.c_uint32, [ctypes.c_void_p, ctypes.c_size_t]
+    word, long, run = ctypes.c_uint32, ctypes.c_uint64, [ctypes.c_void_p, ctypes.c_size_t]
     picture = run + [word, word]
     maps = run + [word] + run + run + run  # from the steps on
     signatures = {
-        "read_pgm": run + [ctypes.c_void_p],
+        "read_pgm": run + [long, ctypes.c_void_p],
         "write_pgm": picture + [word] + run,
         "build": picture + [word, word] + run,
         "open": picture + [word, word, word] + run + run,
@@ -395,7 +456,7 @@ def load(path):
             function = getattr(library, "teldruf_" + name)
         except AttributeError as fault:
             raise OSError(f"{path}: not Teldruf's library: {fault}") from None
-        function.argtypes, function.restype = arguments, ctypes.c_uint64
+        function.argtypes, function.restype = arguments, long
     _loaded = library
 
 
