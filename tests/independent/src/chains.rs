@@ -18,12 +18,47 @@ use crate::random::Random;
 use crate::report::Report;
 use crate::table::rows;
 
-struct Chain {
+/// The pictures that a chain hands on, the original first.
+pub struct Handed {
     /// Under the chain's neighbourhood.
-    original: ByDefinition,
-    attribute: u32,
+    pub original: ByDefinition,
     /// The original and the output of each accepted call.
-    pictures: Vec<Vec<u8>>,
+    pub pictures: Vec<Vec<u8>>,
+}
+
+impl Handed {
+    pub fn first(original: ByDefinition) -> Handed {
+        Handed {
+            pictures: vec![original.picture.greys.clone()],
+            original,
+        }
+    }
+
+    pub fn neighbours(&self) -> u32 {
+        self.original.levels.neighbours
+    }
+
+    /// The chain's picture.
+    pub fn current(&self) -> Picture {
+        Picture {
+            greys: self.pictures[self.pictures.len() - 1].clone(),
+            ..self.original.picture
+        }
+    }
+
+    /// Is the chain's picture one of the original?
+    pub fn is_leveling(&self) -> bool {
+        is_leveling(
+            &self.original.picture,
+            self.neighbours(),
+            &self.current().greys,
+        )
+    }
+}
+
+struct Chain {
+    handed: Handed,
+    attribute: u32,
     accepted: Vec<u32>,
     /// A call was accepted under the other neighbourhood: the list is no chain under this one.
     mixed: bool,
@@ -31,17 +66,6 @@ struct Chain {
 }
 
 impl Chain {
-    fn neighbours(&self) -> u32 {
-        self.original.levels.neighbours
-    }
-
-    fn current(&self) -> Picture {
-        Picture {
-            greys: self.pictures[self.accepted.len()].clone(),
-            ..self.original.picture
-        }
-    }
-
     fn largest(&self) -> u32 {
         self.accepted.iter().copied().max().unwrap_or(0)
     }
@@ -49,15 +73,15 @@ impl Chain {
     /// Makes one call on the chain's picture. It is held to the neighbourhood that it names; if it
     /// names none it is refused, and nothing is asked of the levels.
     fn call(&mut self, report: &mut Report, random: &mut Random, call: &Call) {
-        let current = self.current();
+        let current = self.handed.current();
         let named = call.numbers.neighbours;
         let known = NEIGHBOURHOODS.contains(&named);
         let truth = ByDefinition::of(&current, if known { named } else { 4 });
         self.calls += 1;
         if let Some(output) = check_open(report, random, call, &truth) {
-            self.pictures.push(output);
+            self.handed.pictures.push(output);
             self.accepted.push(call.steps[0]);
-            self.mixed |= named != self.neighbours();
+            self.mixed |= named != self.handed.neighbours();
         }
     }
 
@@ -65,9 +89,9 @@ impl Chain {
         format!(
             "chain of {:?}: {:?} attribute {}, {} neighbours",
             self.accepted,
-            self.original.picture,
+            self.handed.original.picture,
             self.attribute,
-            self.neighbours()
+            self.handed.neighbours()
         )
     }
 }
@@ -111,21 +135,20 @@ fn make(report: &mut Report, random: &mut Random, original: &Picture) -> Chain {
     let neighbours = random.pick(&NEIGHBOURHOODS);
     let attribute = random.between(1, 3) as u32;
     let mut chain = Chain {
-        pictures: vec![original.greys.clone()],
-        original: ByDefinition::of(original, neighbours),
+        handed: Handed::first(ByDefinition::of(original, neighbours)),
         attribute,
         accepted: Vec::new(),
         mixed: false,
         calls: 0,
     };
-    let values = attribute_values(&chain.original.levels, attribute);
+    let values = attribute_values(&chain.handed.original.levels, attribute);
     let mixing = random.chance(1, 10);
     let mut due = thresholds(random, &values);
     due.truncate(if random.chance(1, 20) { 300 } else { 20 });
     due.reverse();
     while !due.is_empty() || random.chance(1, 3) {
         if due.is_empty() || random.chance(1, 4) {
-            let good = Call::good(&chain.current(), attribute, neighbours, vec![1]);
+            let good = Call::good(&chain.handed.current(), attribute, neighbours, vec![1]);
             let bad = bad_call(random, &good);
             chain.call(report, random, &bad);
         } else if let Some(t) = due.pop() {
@@ -134,7 +157,7 @@ fn make(report: &mut Report, random: &mut Random, original: &Picture) -> Chain {
             } else {
                 neighbours
             };
-            let good = Call::good(&chain.current(), attribute, named, vec![t]);
+            let good = Call::good(&chain.handed.current(), attribute, named, vec![t]);
             chain.call(report, random, &good);
         }
     }
@@ -143,8 +166,8 @@ fn make(report: &mut Report, random: &mut Random, original: &Picture) -> Chain {
 
 /// One single opening of the original beside the chain's picture.
 fn check_single(report: &mut Report, random: &mut Random, chain: &Chain, single: u32) {
-    let original = &chain.original;
-    let (attribute, neighbours) = (chain.attribute, chain.neighbours());
+    let original = &chain.handed.original;
+    let (attribute, neighbours) = (chain.attribute, chain.handed.neighbours());
     let call = Call::good(&original.picture, attribute, neighbours, vec![single]);
     let Some(opened) = check_open(report, random, &call, original) else {
         return;
@@ -153,7 +176,7 @@ fn check_single(report: &mut Report, random: &mut Random, chain: &Chain, single:
     let range = largest.min(single)..largest.max(single);
     let mut removable = original.levels.removable(attribute);
     let between = removable.any(|a| range.contains(&a));
-    let equal = opened == chain.current().greys;
+    let equal = opened == chain.handed.current().greys;
     let fault = (equal == between).then(|| format!("single opening at {single}: equal is {equal}"));
     report.met("single opening", u64::from(between));
     report.check(fault, || chain.shown());
@@ -169,15 +192,15 @@ fn check_falls(report: &mut Report, random: &mut Random, chain: &Chain, which: M
         return;
     }
     let given = match which {
-        MapCall::Light => chain.original.picture.clone(),
-        _ => chain.original.picture.reversed(),
+        MapCall::Light => chain.handed.original.picture.clone(),
+        _ => chain.handed.original.picture.reversed(),
     };
-    let truth = ByDefinition::of(&given, chain.neighbours());
-    let (neighbours, steps) = (chain.neighbours(), chain.accepted.clone());
+    let truth = ByDefinition::of(&given, chain.handed.neighbours());
+    let (neighbours, steps) = (chain.handed.neighbours(), chain.accepted.clone());
     let mut call = Call::good(&given, chain.attribute, neighbours, steps);
     let further = any_gap(random);
-    let mut falls = vec![largest_falls(&chain.pictures)];
-    falls.extend(joined_falls(&chain.pictures, &[further]));
+    let mut falls = vec![largest_falls(&chain.handed.pictures)];
+    falls.extend(joined_falls(&chain.handed.pictures, &[further]));
     for (gap, falls) in [0, further].into_iter().zip(falls) {
         call.gap = gap;
         let written = check_map(report, random, which, &call, &truth);
@@ -188,11 +211,10 @@ fn check_falls(report: &mut Report, random: &mut Random, chain: &Chain, which: M
 }
 
 fn check_chain(report: &mut Report, random: &mut Random, chain: &Chain, which: MapCall) {
-    let new = chain.current().greys;
-    let leveling = is_leveling(&chain.original.picture, chain.neighbours(), &new);
+    let leveling = chain.handed.is_leveling();
     let fault = (!leveling).then(|| String::from("the chain's picture is no leveling"));
     report.check(fault, || chain.shown());
-    let values = attribute_values(&chain.original.levels, chain.attribute);
+    let values = attribute_values(&chain.handed.original.levels, chain.attribute);
     for _ in 0..3 {
         let single = threshold(random, &values);
         check_single(report, random, chain, single);

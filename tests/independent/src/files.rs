@@ -1,9 +1,11 @@
-// PGM files and buffers, good, damaged by each cause and by pairs, and mutated at random.
+// PGM files and buffers, good, damaged by each cause and by pairs, and mutated at random. The files
+// hold one picture, which is asked for as number 1; those that hold several stand in bursts.rs.
 
 use crate::damage::wrong_sides;
+use crate::definition::Picture;
 use crate::interface;
 use crate::lent::Lent;
-use crate::pgm;
+use crate::pgm::{self, Head};
 use crate::pictures;
 use crate::random::Random;
 use crate::report::{answer_fault, refused, shown, Report};
@@ -76,6 +78,11 @@ fn digits(random: &mut Random, value: u32) -> Vec<u8> {
 
 pub fn good_file(random: &mut Random, case: usize) -> Parts {
     let picture = pictures::small(random, case);
+    file_of(random, picture)
+}
+
+/// A good file of this picture.
+pub fn file_of(random: &mut Random, picture: Picture) -> Parts {
     let brightest = picture.greys.iter().copied().max().unwrap_or(0);
     let maximum = match random.below(3) {
         0 => 255,
@@ -147,8 +154,8 @@ pub fn damage_read(random: &mut Random, file: &mut Parts, cause: u32) {
         }
         11 => {
             let n = file.raster.len();
-            let length = random.pick(&[n.saturating_sub(1), n + 1, 0, 2 * n]);
-            file.raster.resize(length, 0);
+            file.raster
+                .truncate(random.pick(&[n.saturating_sub(1), n / 2, 0]));
         }
         _ => raise_sample(random, file),
     }
@@ -200,19 +207,34 @@ fn mutate(random: &mut Random, file: &mut Vec<u8>, header: usize) {
     }
 }
 
+/// Asks for the picture of this number: what is wrong with the answer or the head.
+pub fn read_fault(
+    random: &mut Random,
+    file: &[u8],
+    number: u64,
+    due: Result<Head, u32>,
+) -> Option<String> {
+    let mut head = Lent::dirty(random, 4);
+    let answer = interface::read_pgm(file, number, head.now_mut());
+    let words = due.ok().map(|head| head.words());
+    answer_fault(answer, due.map_or_else(refused, |_| 0))
+        .or_else(|| head.fault("head", words.as_ref().map(|w| &w[..])))
+}
+
 fn check_read(report: &mut Report, random: &mut Random, bytes: &[u8]) {
     let file = Lent::holding(random, bytes);
-    let mut head = Lent::dirty(random, 4);
-    let answer = interface::read_pgm(file.now(), head.now_mut());
-    let due = pgm::read(bytes);
+    let due = pgm::read(bytes, 1);
     report.met("read", due.map_or_else(u64::from, |_| 0));
-    let words = due
-        .ok()
-        .map(|h| [h.width, h.height, h.maximum, h.raster as u32]);
-    let fault = answer_fault(answer, due.map_or_else(refused, |_| 0))
-        .or_else(|| file.fault("file", None))
-        .or_else(|| head.fault("head", words.as_ref().map(|w| &w[..])));
+    let fault = read_fault(random, file.now(), 1, due).or_else(|| file.fault("file", None));
     report.check(fault, || format!("read {}", shown(bytes)));
+}
+
+/// Bytes after the raster, which are no further picture but by chance.
+fn with_surplus(random: &mut Random, file: &Parts) -> Vec<u8> {
+    let any = random.byte();
+    let byte = random.pick(&[0, b'\n', b' ', b'P', any]);
+    let surplus = random.pick(&[1, 2, file.raster.len()]);
+    [file.bytes(), vec![byte; surplus]].concat()
 }
 
 #[derive(Clone, Debug)]
@@ -225,7 +247,7 @@ pub struct Writing {
 }
 
 impl Writing {
-    fn due(&self) -> Result<Vec<u8>, u32> {
+    pub fn due(&self) -> Result<Vec<u8>, u32> {
         pgm::write(
             &self.picture,
             self.width,
@@ -259,32 +281,27 @@ fn check_write(report: &mut Report, random: &mut Random, call: &Writing) {
         .or_else(|| picture.fault("picture", None))
         .or_else(|| buffer.fault("buffer", after.as_deref()))
         .or_else(|| {
-            due.is_ok()
-                .then(|| round_trip(random, call, &buffer, answer))?
+            let file = Lent::holding(random, &buffer.now()[..due.ok()?.len()]);
+            round_trip(random, file.now(), 1, call)
         });
     report.check(fault, || format!("write {call:?}"));
 }
 
-/// What was written is read back: greys and maximum.
-fn round_trip(
-    random: &mut Random,
-    call: &Writing,
-    buffer: &Lent<u8>,
-    answer: u64,
-) -> Option<String> {
-    let file = Lent::holding(random, &buffer.now()[..answer as usize]);
+/// What was written is read back by its number: sides, maximum and greys.
+pub fn round_trip(random: &mut Random, file: &[u8], number: u64, call: &Writing) -> Option<String> {
     let mut head = Lent::dirty(random, 4);
-    let answer = interface::read_pgm(file.now(), head.now_mut());
+    let answer = interface::read_pgm(file, number, head.now_mut());
     let words = head.now();
+    let raster = file.get(words[3] as usize..).unwrap_or_default();
     let same = answer == 0
-        && words[..3] == [call.width, call.height, call.maximum]
-        && file.now()[words[3] as usize..] == call.picture;
-    (!same).then(|| String::from("not read back as written"))
+        && words[..3] == [call.width, call.height, call.maximum].map(u64::from)
+        && raster.starts_with(&call.picture);
+    (!same).then(|| format!("number {number} is not read back as written"))
 }
 
 pub fn good_writing(random: &mut Random, case: usize) -> Writing {
     let file = good_file(random, case);
-    let head = pgm::read(&file.bytes()).expect("a good file");
+    let head = pgm::read(&file.bytes(), 1).expect("a good file");
     let mut call = Writing {
         picture: file.raster,
         width: head.width,
@@ -372,6 +389,8 @@ pub fn run(report: &mut Report, seed: u64, cases: usize) {
         let mut random = Random::for_case(seed, 4, case as u64);
         let mut file = good_file(&mut random, case);
         check_read(report, &mut random, &file.bytes());
+        let longer = with_surplus(&mut random, &file);
+        check_read(report, &mut random, &longer);
         for cause in &read_sets[case % read_sets.len()] {
             damage_read(&mut random, &mut file, *cause);
         }

@@ -4,7 +4,7 @@
 use crate::parts::Triple;
 
 extern "C" {
-    fn teldruf_read_pgm(file: *const u8, file_len: usize, head: *mut u32) -> u64;
+    fn teldruf_read_pgm(file: *const u8, file_len: usize, number: u64, head: *mut u64) -> u64;
     fn teldruf_write_pgm(
         picture: *const u8,
         picture_len: usize,
@@ -183,9 +183,9 @@ pub struct Numbers {
     pub neighbours: u32,
 }
 
-pub fn read_pgm(file: &[u8], head: &mut [u32]) -> u64 {
+pub fn read_pgm(file: &[u8], number: u64, head: &mut [u64]) -> u64 {
     assert_eq!(head.len(), 4);
-    unsafe { teldruf_read_pgm(file.as_ptr(), file.len(), head.as_mut_ptr()) }
+    unsafe { teldruf_read_pgm(file.as_ptr(), file.len(), number, head.as_mut_ptr()) }
 }
 
 pub fn write_pgm(picture: &[u8], width: u32, height: u32, maximum: u32, buffer: &mut [u8]) -> u64 {

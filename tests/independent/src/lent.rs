@@ -32,6 +32,12 @@ impl Entry for u32 {
     }
 }
 
+impl Entry for u64 {
+    fn cut(word: u64) -> u64 {
+        word
+    }
+}
+
 pub struct Lent<T> {
     cells: Vec<T>,
     before: Vec<T>,
@@ -44,12 +50,11 @@ impl<T: Entry> Lent<T> {
     /// taken for positions, or zeros.
     pub fn dirty(random: &mut Random, entries: usize) -> Lent<T> {
         let start = GUARD + random.below(GUARD);
-        let bits = if random.chance(1, 2) {
-            32
+        let mask = if random.chance(1, 2) {
+            u64::MAX
         } else {
-            random.below(22)
+            (1 << random.below(22)) - 1
         };
-        let mask = (1 << bits) - 1;
         let cells: Vec<T> = (0..start + entries + GUARD)
             .map(|_| T::cut(random.next() & mask))
             .collect();

@@ -7,6 +7,7 @@
 // suites grow with it. --suites names the suites to run, which are all of them unless it is given.
 // --program names the built program `basin`, which the suite program runs in many folders.
 
+mod bursts;
 mod calls;
 mod causes;
 mod chains;
@@ -49,7 +50,7 @@ const FEWEST_CASES: usize = 1000;
 
 type Suite = fn(&mut Report, &Options);
 
-const SUITES: [(&str, Suite); 14] = [
+const SUITES: [(&str, Suite); 15] = [
     ("table", |r, o| table::run(r, o.seed)),
     ("neighbours", |r, o| neighbours::run(r, o.seed)),
     ("frame", |r, o| frame::run(r, o.seed, o.cases / 10)),
@@ -61,6 +62,7 @@ const SUITES: [(&str, Suite); 14] = [
     ("calls", |r, o| calls::run(r, o.seed, o.cases)),
     ("chains", |r, o| chains::run(r, o.seed, o.cases / 4)),
     ("files", |r, o| files::run(r, o.seed, o.cases * 2)),
+    ("bursts", |r, o| bursts::run(r, o.seed, o.cases / 4)),
     ("large", |r, o| large::run(r, o.seed)),
     ("long", |r, o| long::run(r, o.seed)),
     (PROGRAM, |r, o| {

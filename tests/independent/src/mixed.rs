@@ -8,7 +8,7 @@
 
 use crate::calls::{any_gap, check_map, check_open, ByDefinition, Call};
 use crate::causes::{MOST_STEPS, MOST_THRESHOLD, NEIGHBOURHOODS};
-use crate::chains::bad_call;
+use crate::chains::{bad_call, Handed};
 use crate::definition::{is_leveling, joined_falls, largest_falls, Picture};
 use crate::interface::{Given, MapCall};
 use crate::large;
@@ -19,10 +19,7 @@ use crate::report::Report;
 use crate::triples::{node_sizes, triple, triple_list, walk};
 
 struct Chain {
-    /// Under the chain's neighbourhood.
-    original: ByDefinition,
-    /// The original and the output of each accepted call.
-    pictures: Vec<Vec<u8>>,
+    handed: Handed,
     /// What each accepted call was given, and the triple that it stands for.
     given: Vec<Given>,
     accepted: Vec<Triple>,
@@ -30,22 +27,11 @@ struct Chain {
 }
 
 impl Chain {
-    fn neighbours(&self) -> u32 {
-        self.original.levels.neighbours
-    }
-
-    fn current(&self) -> Picture {
-        Picture {
-            greys: self.pictures[self.accepted.len()].clone(),
-            ..self.original.picture
-        }
-    }
-
     fn call(&mut self, report: &mut Report, random: &mut Random, call: &Call) {
-        let truth = ByDefinition::of(&self.current(), self.neighbours());
+        let truth = ByDefinition::of(&self.handed.current(), self.handed.neighbours());
         self.calls += 1;
         if let Some(output) = check_open(report, random, call, &truth) {
-            self.pictures.push(output);
+            self.handed.pictures.push(output);
             self.given.push(call.given);
             self.accepted.push(meant(call));
         }
@@ -56,8 +42,8 @@ impl Chain {
             "chain of {:?} by {:?}: {:?}, {} neighbours",
             self.accepted,
             self.given,
-            self.original.picture,
-            self.neighbours()
+            self.handed.original.picture,
+            self.handed.neighbours()
         )
     }
 }
@@ -130,15 +116,14 @@ fn make(
 ) -> Chain {
     let (neighbours, sizes) = (original.levels.neighbours, node_sizes(&original.levels));
     let mut chain = Chain {
-        pictures: vec![original.picture.greys.clone()],
-        original,
+        handed: Handed::first(original),
         given: Vec::new(),
         accepted: Vec::new(),
         calls: 0,
     };
     due.reverse();
     while !due.is_empty() || random.chance(1, 3) {
-        let current = chain.current();
+        let current = chain.handed.current();
         if due.is_empty() || random.chance(1, 5) {
             let triple = any_triple(random, &sizes);
             let good = opening(random, &current, neighbours, triple);
@@ -154,8 +139,8 @@ fn make(
 
 /// One single opening of the original beside the chain's picture.
 fn check_single(report: &mut Report, random: &mut Random, chain: &Chain, single: Triple) {
-    let original = &chain.original;
-    let neighbours = chain.neighbours();
+    let original = &chain.handed.original;
+    let neighbours = chain.handed.neighbours();
     let call = opening(random, &original.picture, neighbours, single);
     let Some(opened) = check_open(report, random, &call, original) else {
         return;
@@ -163,7 +148,7 @@ fn check_single(report: &mut Report, random: &mut Random, chain: &Chain, single:
     let largest = parts::largest(&chain.accepted);
     let meets_one = |sizes| parts::meets(sizes, single) != parts::meets(sizes, largest);
     let differ = original.levels.all_removable().any(meets_one);
-    let equal = opened == chain.current().greys;
+    let equal = opened == chain.handed.current().greys;
     let fault = (equal == differ).then(|| format!("opening by {single:?}: equal is {equal}"));
     report.met("single triple", u64::from(differ));
     report.check(fault, || chain.shown());
@@ -181,17 +166,17 @@ fn check_falls(report: &mut Report, random: &mut Random, chain: &Chain, which: M
         return;
     }
     let given = match which {
-        MapCall::Light => chain.original.picture.clone(),
-        _ => chain.original.picture.reversed(),
+        MapCall::Light => chain.handed.original.picture.clone(),
+        _ => chain.handed.original.picture.reversed(),
     };
-    let truth = ByDefinition::of(&given, chain.neighbours());
+    let truth = ByDefinition::of(&given, chain.handed.neighbours());
     let further = any_gap(random);
-    let mut falls = vec![largest_falls(&chain.pictures)];
-    falls.extend(joined_falls(&chain.pictures, &[further]));
+    let mut falls = vec![largest_falls(&chain.handed.pictures)];
+    falls.extend(joined_falls(&chain.handed.pictures, &[further]));
     for (gap, falls) in [0, further].into_iter().zip(falls) {
         let call = Call {
             gap,
-            ..Call::triples(&given, chain.neighbours(), &chain.accepted)
+            ..Call::triples(&given, chain.handed.neighbours(), &chain.accepted)
         };
         let written = check_map(report, random, which, &call, &truth);
         let same = written.is_some_and(|written| written.maps == falls);
@@ -224,11 +209,10 @@ fn beside(random: &mut Random, largest: Triple, sizes: &[Triple]) -> Triple {
 }
 
 fn check_chain(report: &mut Report, random: &mut Random, chain: &Chain, which: MapCall) {
-    let new = chain.current().greys;
-    let leveling = is_leveling(&chain.original.picture, chain.neighbours(), &new);
+    let leveling = chain.handed.is_leveling();
     let fault = (!leveling).then(|| String::from("the chain's picture is no leveling"));
     report.check(fault, || chain.shown());
-    let sizes = node_sizes(&chain.original.levels);
+    let sizes = node_sizes(&chain.handed.original.levels);
     let largest = parts::largest(&chain.accepted);
     for _ in 0..4 {
         let single = beside(random, largest, &sizes);

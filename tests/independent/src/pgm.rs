@@ -1,13 +1,23 @@
-// Binary PGM by the Netpbm page and the scope, "PGM".
+// Binary PGM by the Netpbm page, the scope, "PGM", and the request that a file holds one picture or
+// several end to end.
 
 use crate::causes::pixels;
 
+/// What a picture's header says, and where its raster starts.
 #[derive(Clone, Copy, Debug, PartialEq)]
 pub struct Head {
     pub width: u32,
     pub height: u32,
     pub maximum: u32,
     pub raster: usize,
+}
+
+impl Head {
+    /// As the reader writes it.
+    pub fn words(&self) -> [u64; 4] {
+        let numbers = [self.width, self.height, self.maximum].map(u64::from);
+        [numbers[0], numbers[1], numbers[2], self.raster as u64]
+    }
 }
 
 pub fn is_white(byte: u8) -> bool {
@@ -47,8 +57,8 @@ fn gap_and_number(bytes: &[u8]) -> Option<(u32, &[u8])> {
 }
 
 /// Width, height, maximum, and where the raster starts; no value is judged.
-fn header(file: &[u8]) -> Option<Head> {
-    let (width, rest) = gap_and_number(&file[2..])?;
+fn header(bytes: &[u8]) -> Option<Head> {
+    let (width, rest) = gap_and_number(&bytes[2..])?;
     let (height, rest) = gap_and_number(rest)?;
     let (maximum, rest) = gap_and_number(rest)?;
     let (white, raster) = rest.split_first()?;
@@ -56,28 +66,55 @@ fn header(file: &[u8]) -> Option<Head> {
         width,
         height,
         maximum,
-        raster: file.len() - raster.len(),
+        raster: bytes.len() - raster.len(),
     })
 }
 
-/// Refused in the order 8, 9, 10, 1, 11, 12.
-pub fn read(file: &[u8]) -> Result<Head, u32> {
-    if !file.starts_with(b"P5") {
+/// The picture that these bytes start with, and the bytes after it. Refused in the order 8, 9, 10, 1,
+/// 11, 12.
+fn first(bytes: &[u8]) -> Result<(Head, &[u8]), u32> {
+    if !bytes.starts_with(b"P5") {
         return Err(8);
     }
-    let head = header(file).ok_or(9u32)?;
+    let head = header(bytes).ok_or(9u32)?;
     if !(1..=255).contains(&head.maximum) {
         return Err(10);
     }
     let n = pixels(head.width, head.height)?;
-    let raster = &file[head.raster..];
-    if raster.len() != n {
-        return Err(11);
-    }
+    let (raster, rest) = bytes[head.raster..].split_at_checked(n).ok_or(11u32)?;
     if raster.iter().any(|grey| u32::from(*grey) > head.maximum) {
         return Err(12);
     }
-    Ok(head)
+    Ok((head, rest))
+}
+
+/// The pictures of a whole file, in which rasters have their places, or the cause of the first that
+/// is faulty. An empty file has a faulty one.
+pub fn pictures(file: &[u8]) -> Result<Vec<Head>, u32> {
+    let mut pictures = Vec::new();
+    let mut rest = file;
+    while pictures.is_empty() || !rest.is_empty() {
+        let start = file.len() - rest.len();
+        let (head, after) = first(rest)?;
+        pictures.push(Head {
+            raster: start + head.raster,
+            ..head
+        });
+        rest = after;
+    }
+    Ok(pictures)
+}
+
+/// The picture of this number, from 1 up. After all other causes, 18 if there is none.
+pub fn named(pictures: &Result<Vec<Head>, u32>, number: u64) -> Result<Head, u32> {
+    let pictures = pictures.as_ref().map_err(|cause| *cause)?;
+    let mut numbered = (1..).zip(pictures);
+    let found = numbered.find(|(k, _)| *k == number);
+    found.map(|(_, head)| *head).ok_or(18)
+}
+
+pub fn read(file: &[u8], number: u64) -> Result<Head, u32> {
+    named(&pictures(file), number)
 }
 
 /// The whole file, or the cause in the order 1, 2, 10, 12, 7.

@@ -1,6 +1,7 @@
 // The program `basin`, run in a folder of its own for each case; what it prints is held to the
 // scope. It prints to standard output alone: an answer or a refusal, and nothing else. A refusal is
-// an answer like another, so that every run ends with status 0.
+// an answer like another, so that every run ends with status 0. Of several pictures in its file it
+// takes the first.
 
 use crate::calls::step_list;
 use crate::pgm;
@@ -197,6 +198,27 @@ fn filled(random: &mut Random, raster: usize) -> Vec<u8> {
     .concat()
 }
 
+/// A picture of one row and one grey.
+fn row(width: usize) -> Vec<u8> {
+    pgm::write(&vec![7; width], width as u32, 1, 255, usize::MAX).expect("a good picture")
+}
+
+/// A few pictures end to end, of which some have about as many pixels as the program takes; half of
+/// the files are damaged.
+fn burst(random: &mut Random, case: usize) -> Vec<u8> {
+    let mut file = Vec::new();
+    for k in 0..random.between(2, 4) {
+        file.extend(match random.below(6) {
+            0 => row(random.pick(&[2047, 2048, 2049])),
+            _ => basin_file(random, case + k),
+        });
+    }
+    if random.chance(1, 2) {
+        mutate(random, &mut file);
+    }
+    file
+}
+
 /// A picture about as large as the program takes.
 fn bound(random: &mut Random) -> Vec<u8> {
     let (width, height) = random.pick(&[(2048, 1), (1, 2048), (2049, 1), (64, 32), (683, 3)]);
@@ -206,7 +228,7 @@ fn bound(random: &mut Random) -> Vec<u8> {
     pgm::write(&greys, width, height, 255, usize::MAX).expect("a good picture")
 }
 
-/// A file that is good, damaged or too long, or none: kind 0 to 6.
+/// A file that is good, damaged or too long, or none: kind 0 to 7.
 fn basin_entry(random: &mut Random, case: usize, kind: usize) -> Entry {
     let mut file = basin_file(random, case);
     match kind {
@@ -218,6 +240,7 @@ fn basin_entry(random: &mut Random, case: usize, kind: usize) -> Entry {
         2 => file = bound(random),
         3 => return unreadable(random),
         4 => file.resize(5000, 0),
+        5 => file = burst(random, case),
         _ => {}
     }
     Entry::File(file)
@@ -260,6 +283,10 @@ fn output_fault(output: &Output, due: &[u8]) -> Option<String> {
     (!faults.is_empty()).then(|| faults.join("\n  "))
 }
 
+fn file(bytes: &[u8]) -> Entry {
+    Entry::File(bytes.to_vec())
+}
+
 /// The program and a folder for it to run in.
 struct Place {
     program: PathBuf,
@@ -298,14 +325,57 @@ impl Place {
         });
     }
 
+    /// What is due here is known without the definition, which must find the same.
+    fn check_known(&self, report: &mut Report, basin: &[u8], steps: &[u8], due: &str) {
+        let same = steps::printed(Some(basin), Some(steps)) == due;
+        let fault = (!same).then(|| String::from("not as the scope has it"));
+        report.check(fault, || format!("definition here: {}", shown(basin)));
+        self.check(report, &file(basin), &file(steps));
+    }
+
+    /// The first of several good pictures is listed, however many pixels the others have. More than
+    /// 2,048 in the first are refused, after the bytes of the whole file and before its steps.
+    fn good_bursts(&self, report: &mut Report) {
+        let (basin, steps, listing) = EXAMPLES[0];
+        for further in [basin, EXAMPLES[1].0, &row(2048), &row(2049), &row(4056)] {
+            let burst = [basin, further].concat();
+            self.check_known(report, &burst, steps, listing);
+            self.check_known(report, &burst, b"", "refused\t13\n");
+            self.check_known(report, &burst, b"attribute\tarea\n", "refused\t4\n");
+        }
+        let full = [basin, &row(4056)].concat();
+        assert_eq!(full.len(), 4096);
+        for (burst, due) in [
+            ([basin, &row(4057)], "refused\t14\n"),
+            ([&full, b"\n"], "refused\t14\n"),
+            ([&row(2049), basin], "refused\t14\n"),
+        ] {
+            self.check_known(report, &burst.concat(), steps, due);
+            self.check_known(report, &burst.concat(), b"", due);
+        }
+        self.check(report, &file(&[row(2048), row(1)].concat()), &file(steps));
+    }
+
+    /// A faulty picture after others is refused as it is alone, before more than 2,048 pixels in the
+    /// first are, and before the steps.
+    fn faulty_bursts(&self, report: &mut Report) {
+        let (basin, steps, _) = EXAMPLES[0];
+        for faulty in &ODD_PICTURES[1..] {
+            let due = steps::printed(Some(faulty), Some(steps));
+            for good in [basin, &row(2048), &row(2049), &row(4000)] {
+                for further in [&b""[..], basin] {
+                    let burst = [good, further, faulty].concat();
+                    self.check_known(report, &burst, steps, &due);
+                    self.check_known(report, &burst, b"", &due);
+                }
+            }
+        }
+    }
+
     /// The examples, and each odd file beside a good one and beside a bad one.
     fn systematic(&self, report: &mut Report) {
-        let file = |bytes: &[u8]| Entry::File(bytes.to_vec());
         for (basin, steps, due) in EXAMPLES {
-            let same = steps::printed(Some(basin), Some(steps)) == due;
-            let fault = (!same).then(|| String::from("not as the scope has it"));
-            report.check(fault, || format!("definition here: {}", shown(basin)));
-            self.check(report, &file(basin), &file(steps));
+            self.check_known(report, basin, steps, due);
         }
         let (basin, steps, _) = EXAMPLES[0];
         for odd in ODD_STEPS {
@@ -324,10 +394,12 @@ pub fn run(report: &mut Report, seed: u64, cases: usize, program: &str) {
         folder: std::env::temp_dir().join(format!("teldruf-{}", std::process::id())),
     };
     place.systematic(report);
+    place.good_bursts(report);
+    place.faulty_bursts(report);
     for case in 0..cases {
         let mut random = Random::for_case(seed, 6, case as u64);
-        let basin = basin_entry(&mut random, case, case % 7);
-        let steps = steps_entry(&mut random, case / 7 % 7);
+        let basin = basin_entry(&mut random, case, case % 8);
+        let steps = steps_entry(&mut random, case / 8 % 7);
         place.check(report, &basin, &steps);
     }
     report.check_all_met("program", &[0, 15, 14, 8, 9, 10, 1, 11, 12, 13, 3, 4]);

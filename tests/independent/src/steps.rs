@@ -68,11 +68,12 @@ fn answer(basin: Option<&[u8]>, steps: Option<&[u8]>) -> Result<String, u32> {
     if basin.len() > MOST_BYTES || steps.len() > MOST_BYTES {
         return Err(14);
     }
-    let head = pgm::read(basin)?;
+    let head = pgm::read(basin, 1)?;
+    let (width, height) = (head.width as usize, head.height as usize);
     let picture = Picture {
-        width: head.width as usize,
-        height: head.height as usize,
-        greys: basin[head.raster..].to_vec(),
+        width,
+        height,
+        greys: basin[head.raster..][..width * height].to_vec(),
     };
     if picture.pixels() > MOST_LISTED {
         return Err(14);

@@ -292,17 +292,22 @@ fn failed(sizes: [u32; 3], triple: Triple) -> u64 {
     (0..3).map(bit).sum()
 }
 
+/// A floc of these sides in a ring one pixel wide.
+fn one_floc(width: usize, height: usize) -> Nest {
+    let floc = Rectangle {
+        top: 1,
+        bottom: height,
+        left: 1,
+        right: width,
+    };
+    Nest::new(&[Rectangle::whole(width + 2, height + 2), floc])
+}
+
 /// A floc of every size up to 5 by 5, opened and mapped at triples whose parts are 0, one below its
 /// size, at it or one above: it stays if none is above.
 fn each_part(report: &mut Report, random: &mut Random) {
     for (height, width) in (0..25).map(|k| (1 + k / 5, 1 + k % 5)) {
-        let floc = Rectangle {
-            top: 1,
-            bottom: height,
-            left: 1,
-            right: width,
-        };
-        let nest = Nest::new(&[Rectangle::whole(width + 2, height + 2), floc]);
+        let nest = one_floc(width, height);
         let sizes = nest.attributes[1];
         for number in 1..64 {
             let part = |k: usize| {
@@ -565,13 +570,7 @@ fn check_darkest(report: &mut Report, random: &mut Random, truth: &ByDefinition)
 /// part: it falls at the last of 256 places.
 fn last_places(report: &mut Report, random: &mut Random) {
     for (height, width) in [(1, 256), (256, 1), (16, 16), (40, 41)] {
-        let floc = Rectangle {
-            top: 1,
-            bottom: height,
-            left: 1,
-            right: width,
-        };
-        let nest = Nest::new(&[Rectangle::whole(width + 2, height + 2), floc]);
+        let nest = one_floc(width, height);
         let sizes = nest.attributes[1];
         for part in 0..3 {
             let mut triple = sizes;
