@@ -58,7 +58,7 @@ fn least(word: u32, place: u32) -> u32
     if place < word { place } else { word }
 }
 
-// Lowers the place word of each node to how many of the thresholds it outlasts by the attribute that it holds.
+// Lowers the place word of each node to at most how many of the thresholds it outlasts by the attribute that it holds.
 pub fn lower(n: usize, steps: &[u32], nodes: usize, ws: &mut [u32])
     requires { ⌜ Lowerable n nodes (now steps) (now ws) ⌝ }
     ensures { λ _. ⌜ Lowered n nodes (now (steps .entry)) (now (ws .entry)) (now (ws .exit)) ⌝ }

@@ -3,7 +3,6 @@
 ghost use mathlib.Core.Path.{_≡_};
 ghost use Prim.Native.Nat.{_%_, _≤_, _<_};
 ghost use lib.Dec.{eqb};
-ghost use lib.ListN.{length};
 ghost use Rattle.levels.specs.Workspace.{Sized};
 ghost use Rattle.visits.specs.Visits.{held, at-entry, at-exit, Standing, Visiting, above, left-of, right-of, below};
 ghost use Rattle.visits.specs.Visits.{corners-above, corners-below, corners, Based, Visited, VisitedTo, met-test, Met-but, VisitedAround};
