@@ -1,10 +1,12 @@
 -- An accepted file is exactly a sequence of pages: `accepted-page` gives the page of the number, among pages before and after it;
--- `page-accepted` gives the answer and the raster where there is such a page. `beyond` and `not-named` say the same of the number. Assumes nothing.
+-- `page-accepted` gives the answer and the raster where there is such a page. Else the number is not that of a page (`beyond`, `not-named`),
+-- or a picture after some pages is faulty, and the first such gives the cause (`faulty-refused`, `refused-faulty`). Assumes nothing.
 use Prim.Native.Nat.{ℕ, zero, suc, _+_, _-_, _≤_, _<_}
 use mathlib.Core.Path.{_≡_, refl, sym, _∙_, ap}
 use mathlib.Core.Bool.{Bool, true, false, _&&_}
 use mathlib.Core.List.{List, [], _∷_, _++_, append-assoc}
 use mathlib.Core.Logic.{_⊎_, inl, inr}
+use native.Mathlib.Nat.{zero-add}
 use native.Mathlib.Omega.{arith}
 use lib.Dec.{leb}
 use lib.ListN.{length, getD, drop, length-append}
@@ -15,14 +17,14 @@ use Rattle.causes.specs.declared.Cause.{Cause}
 use Rattle.causes.specs.Causes.{number-of, must}
 use Rattle.causes.proofs.Laws.{both-true}
 use Rattle.causes.proofs.Refusing.{must-passed}
-use Rattle.pgm_read.specs.Read.{pictures, pictures-from, read-answer, raster-of}
+use Rattle.pgm_read.specs.Read.{picture-at, pictures, pictures-from, read-answer, raster-of}
 use Rattle.pgm_read.specs.declared.Found.{Found}
 use Rattle.pgm_read.specs.declared.Found.the-variants.{Picture, Refused}
 use Rattle.pgm.specs.Page.{Page}
-use Rattle.pgm.specs.Burst.{Pages, Numbered}
+use Rattle.pgm.specs.Burst.{Pages, Numbered, FirstFaulty}
 use Rattle.pgm.specs.Burst.Pages.{none, then}
 use Rattle.pgm.proofs.Shape.{page-read}
-use Rattle.pgm.proofs.Pages.{Shown, Faulty, pages-shown, shown-pages, joined, shown-good, shown-found, found-shown}
+use Rattle.pgm.proofs.Pages.{Shown, Faulty, pages-shown, shown-pages, joined, shown-good, shown-found, shown-faulty, picture-few, found-shown}
 use Rattle.pgm.proofs.Pages.Shown.{nothing, page}
 
 -- the answer on a file of pages
@@ -122,21 +124,48 @@ pick-page (page {at} {end} {bytes = b} {rest = r} p e q) (suc place) w h m s g =
       start-right = omega (arith, n .start-right, e, length-append b (n .before));
     }
 
+-- "the first faulty picture gives the number", whichever picture is named
+pub faulty-refused : {file : List ℕ} {cause : Cause} → FirstFaulty file cause → (number : ℕ) → read-answer file number ≡ Refused cause
+unfolding read-answer
+faulty-refused {file} {cause} f number =
+    let s = pages-shown (f .before-right) 0 in
+    let there : picture-at file (0 + length (f .before)) ≡ Refused cause = rw (zero-add (length (f .before))) (f .faulty) in
+    shown-faulty (suc (length file)) file (omega arith) (omega arith) (s .1) (f .rest) (f .layout) (more (s .0) (s .2) (f .more)) cause there _
+  where
+    more : (shown : List Found) → length shown ≡ f .earlier → (f .earlier ≡ 0) ⊎ (1 ≤ length (f .rest)) → (shown ≡ []) ⊎ (1 ≤ length (f .rest))
+    more [] e (inl z) = inl refl
+    more (p ∷ rest) e (inl z) = absurd (omega arith)
+    more shown e (inr l) = inr l
+
+faulty-first : {file : List ℕ} (f : Faulty file 0) → FirstFaulty file (f .cause)
+faulty-first f =
+    record {
+      before = f .front;
+      rest = f .rest;
+      earlier = f .count;
+      layout = f .stands;
+      before-right = f .front-right;
+      more = f .more;
+      faulty = rw (zero-add (length (f .front))) at (f .there);
+    }
+
 module _ (file : List ℕ) (number : ℕ) where
   -- either the file has nothing but pages, and the number decides, or the answer is the cause of a faulty picture
   by-number : Found
   by-number = getD (pictures file) (number - 1) (Refused PictureNumber)
 
   Decided : Type 0
-  Decided = (Shown 0 file (pictures file) × (read-answer file number ≡ must Refused (leb 1 number && leb number (length (pictures file))) PictureNumber by-number)) ⊎ ((cause : Cause) × (number-of cause < 18) × (read-answer file number ≡ Refused cause))
+  Decided = (Shown 0 file (pictures file) × (read-answer file number ≡ must Refused (leb 1 number && leb number (length (pictures file))) PictureNumber by-number)) ⊎ ((cause : Cause) × (number-of cause < 18) × (read-answer file number ≡ Refused cause) × FirstFaulty file cause)
 
   decided : Decided
   unfolding read-answer Decided by-number
   decided = go (found-shown (suc (length file)) file 0 (omega arith) (omega arith))
     where
-      go : Shown 0 file (pictures file) ⊎ Faulty (pictures file) → Decided
+      go : Shown 0 file (pictures file) ⊎ Faulty file 0 → Decided
       go (inl s) = inl (s, shown-good s _)
-      go (inr f) = inr (f .cause, f .small, f .given _)
+      go (inr f) =
+          let first = faulty-first f in
+          inr (f .cause, picture-few file (f .cause) (length (first .before)) (first .faulty), faulty-refused first number, first)
 
   module _ (width height maximum start : ℕ) (e : read-answer file number ≡ Picture width height maximum start) where
     number-found : Shown 0 file (pictures file) × (1 ≤ number) × (getD (pictures file) (number - 1) (Refused PictureNumber) ≡ Picture width height maximum start)
@@ -147,7 +176,7 @@ module _ (file : List ℕ) (number : ℕ) where
         go (inl (s, a)) =
             let m = must-passed Refused (leb 1 number && leb number (length (pictures file))) PictureNumber by-number (Picture width height maximum start) (no-picture width height maximum start) (sym a ∙ e) in
             (s, leb-true 1 number (both-true (leb 1 number) (leb number (length (pictures file))) (m .0) .0), m .1)
-        go (inr (cause, l, a)) = let f : Refused cause ≡ Picture width height maximum start = sym a ∙ e in let z : _≡_ {A = ℕ} 0 1 = cc in absurd (omega arith)
+        go (inr (cause, l, a, first)) = let f : Refused cause ≡ Picture width height maximum start = sym a ∙ e in let z : _≡_ {A = ℕ} 0 1 = cc in absurd (omega arith)
 
     -- the page of an accepted number
     pub accepted-page : Numbered file number width height maximum start (raster-of file number)
@@ -194,10 +223,28 @@ not-named file number e = go (decided file number)
 
     go : Decided file number → (count : ℕ) × Pages count file × (1 ≤ count) × ((number ≡ 0) ⊎ (count < number))
     go (inl (s, a)) = (length (pictures file), shown-pages s, some-pictures file, outside (leb 1 number) (leb number (length (pictures file))) refl refl s (sym a ∙ e))
-    go (inr (cause, l, a)) =
+    go (inr (cause, l, a, first)) =
         let f : Refused cause ≡ Refused PictureNumber = sym a ∙ e in
         let same : cause ≡ PictureNumber = cc in
         absurd (omega (arith, rw same at l))
+
+-- any other cause is that of the first faulty picture
+pub refused-faulty : (file : List ℕ) (number : ℕ) (cause : Cause) → (cause ≡ PictureNumber → ⊥) → read-answer file number ≡ Refused cause → FirstFaulty file cause
+unfolding Decided by-number
+refused-faulty file number cause other e = go (decided file number)
+  where
+    by-must : (t u : Bool) → leb 1 number ≡ t → leb number (length (pictures file)) ≡ u → Shown 0 file (pictures file) → must Refused (t && u) PictureNumber (by-number file number) ≡ Refused cause → ⊥
+    by-must false u f g s a = let same : cause ≡ PictureNumber = cc in other same
+    by-must true false f g s a = let same : cause ≡ PictureNumber = cc in other same
+    by-must true true f g s a =
+        shown-no-cause s (number - 1) cause (omega (arith, leb-true 1 number f, leb-true number (length (pictures file)) g)) a
+
+    go : Decided file number → FirstFaulty file cause
+    go (inl (s, a)) = absurd (by-must (leb 1 number) (leb number (length (pictures file))) refl refl s (sym a ∙ e))
+    go (inr (by, l, a, first)) =
+        let f : Refused by ≡ Refused cause = sym a ∙ e in
+        let same : by ≡ cause = cc in
+        rw same at first
 
 -- so the first picture of a file is there, or the file is refused for another cause
 pub first-there : (file : List ℕ) → read-answer file 1 ≡ Refused PictureNumber → ⊥

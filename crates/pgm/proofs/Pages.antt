@@ -1,13 +1,14 @@
 -- The pictures that are found in a file, one after the other, are those of its pages. Assumes nothing.
 use Prim.Native.Nat.{ℕ, zero, suc, _+_, _*_, _-_, _≤_, _<_}
-use mathlib.Core.Path.{_≡_, refl, ap}
+use mathlib.Core.Path.{_≡_, refl, sym, _∙_, ap}
 use mathlib.Core.Bool.{Bool, true, false, cond}
 use mathlib.Core.List.{List, [], _∷_, _++_, append-assoc}
 use mathlib.Core.Logic.{_⊎_, inl, inr}
+use native.Mathlib.Nat.{add-zero}
 use native.Mathlib.Omega.{arith}
 use lib.Dec.{leb, ltb}
 use lib.ListN.{length, take, drop, length-append, drop-of-length-le}
-use borrow.Author.Tests.{lt-ltb, le-ltb, ltb-false}
+use borrow.Author.Tests.{lt-ltb, le-ltb, ltb-true, ltb-false}
 use Rattle.causes.specs.declared.Cause.{Cause}
 use Rattle.causes.specs.declared.Cause.the-variants.{Sides, Sign, Header as BadHeader, Maximum, RasterLength, Sample}
 use Rattle.causes.specs.Causes.{number-of, must}
@@ -86,6 +87,25 @@ shown-found (suc k) file {at} enough (page {end = end} {width = w} {height = h} 
         rw (next, lt-ltb end (length file) (omega (arith, e, total, page-some p, shown-some q)))
         (on f rest q)
 
+-- a file with pages from a position on, and then a faulty picture, is refused by its cause
+pub shown-faulty : (fuel : ℕ) (file : List ℕ) {at : ℕ} {bytes : List ℕ} {pictures : List Found} → length file < fuel + at → at ≤ length file → Shown at bytes pictures → (rest : List ℕ) → drop at file ≡ bytes ++ rest → (pictures ≡ []) ⊎ (1 ≤ length rest) → (cause : Cause) → picture-at file (at + length bytes) ≡ Refused cause → (answer : Found) → unless-faulty (pictures-from fuel file at) answer ≡ Refused cause
+unfolding pictures-from unless-faulty
+shown-faulty zero file enough within s rest here more cause there answer = absurd (omega arith)
+shown-faulty (suc k) file {at} enough within nothing rest here more cause there answer = rw (rw (add-zero at) at there)
+shown-faulty (suc k) file {at} enough within (page {end = end} {width = w} {height = h} {maximum = m} {own = own} {bytes = b} {rest = r} {pictures = further} p e q) rest here more cause there answer =
+    let stands : drop at file ≡ b ++ (r ++ rest) = here ∙ append-assoc b r rest in
+    let next : at + own + w * h ≡ end = omega (arith, e, p .start-right, p .raster-length) in
+    let total = bytes-from file at b (r ++ rest) stands in
+    let tail = length-append r rest in
+    let some : 1 ≤ length rest = some-rest more in
+    let place : at + length (b ++ r) ≡ end + length r = omega (arith, e, length-append b r) in
+    rw (page-read file at p (r ++ rest) stands .0, next, lt-ltb end (length file) (omega (arith, e, total, tail, some)))
+    (shown-faulty k file (omega (arith, e, page-some p)) (omega (arith, e, total, tail, some)) q rest (rw e (drop-past file at b (r ++ rest) stands)) (inr some) cause (rw place at there) answer)
+  where
+    some-rest : (Picture w h m (at + own) ∷ further ≡ []) ⊎ (1 ≤ length rest) → 1 ≤ length rest
+    some-rest (inl z) = absurd (omega (arith, ap length z))
+    some-rest (inr l) = l
+
 -- no cause of a picture is that of its number
 few : (cause : Cause) (t : Bool) (by : Cause) (answer : Found) → number-of by < 18 → (answer ≡ Refused cause → number-of cause < 18) → must Refused t by answer ≡ Refused cause → number-of cause < 18
 few cause true by answer l rest e = rest e
@@ -101,15 +121,20 @@ module _ (file : List ℕ) (cause : Cause) where
       (few cause (leb (w * h) (length file - s)) RasterLength _ (omega arith)
       (few cause (all-at-most m (take (w * h) (drop s file))) Sample _ (omega arith) (λ f. let z : _≡_ {A = ℕ} 0 1 = cc in absurd (omega arith))))) e
 
-  picture-few : (at : ℕ) → picture-at file at ≡ Refused cause → number-of cause < 18
+  pub picture-few : (at : ℕ) → picture-at file at ≡ Refused cause → number-of cause < 18
   unfolding picture-at
   picture-few at e = few cause (starts-with-sign (drop at file)) Sign _ (omega arith) (judged-few (header-at file (at + 2))) e
 
--- a file of which a picture from a position on is faulty
-pub record Faulty (pictures : List Found) : Type 0 where
+-- pages from a position of a file on, and then a faulty picture
+pub record Faulty (file : List ℕ) (at : ℕ) : Type 0 where
   pub cause : Cause
-  pub given : (answer : Found) → unless-faulty pictures answer ≡ Refused cause
-  pub small : number-of cause < 18
+  pub front : List ℕ
+  pub rest : List ℕ
+  pub count : ℕ
+  pub stands : drop at file ≡ front ++ rest
+  pub front-right : Pages count front
+  pub more : (count ≡ 0) ⊎ (1 ≤ length rest)
+  pub there : picture-at file (at + length front) ≡ Refused cause
 
 -- a page stands where a picture is accepted, and pages may follow it
 module _ (file : List ℕ) (at w h m s : ℕ) (e : picture-at file at ≡ Picture w h m s) where
@@ -125,25 +150,65 @@ module _ (file : List ℕ) (at w h m s : ℕ) (e : picture-at file at ≡ Pictur
   shown-last : length file ≤ s + w * h → Shown at (drop at file) (Picture w h m s ∷ [])
   shown-last l = shown-then [] (rw (drop-of-length-le file l) nothing)
 
+pages-none : {bytes : List ℕ} → Pages 0 bytes → bytes ≡ []
+pages-none none = refl
+
+module _ (file : List ℕ) (at : ℕ) where
+  faulty-here : (cause : Cause) → picture-at file at ≡ Refused cause → Faulty file at
+  faulty-here cause e =
+      record {
+        cause = cause;
+        front = [];
+        rest = drop at file;
+        count = 0;
+        stands = refl;
+        front-right = none;
+        more = inl refl;
+        there = rw (add-zero at) e;
+      }
+
+  -- a page before the others
+  faulty-then : (w h m s : ℕ) → picture-at file at ≡ Picture w h m s → s + w * h < length file → Faulty file (s + w * h) → Faulty file at
+  faulty-then w h m s e l f =
+      let p = page-stands file at w h m s e in
+      let end : at + length (p .page ++ f .front) ≡ s + w * h + length (f .front) = omega (arith, length-append (p .page) (f .front), p .start-right, p .page-right .start-right, p .page-right .raster-length) in
+      record {
+        cause = f .cause;
+        front = p .page ++ f .front;
+        rest = f .rest;
+        count = suc (f .count);
+        stands = p .stands ∙ ap (λ (b : List ℕ). p .page ++ b) (f .stands) ∙ sym (append-assoc (p .page) (f .front) (f .rest));
+        front-right = then (p .page-right) (f .front-right);
+        more = inr (some (f .more));
+        there = rw end (f .there);
+      }
+    where
+      some : (f .count ≡ 0) ⊎ (1 ≤ length (f .rest)) → 1 ≤ length (f .rest)
+      some (inr l) = l
+      some (inl e) =
+          let front : f .front ≡ [] = pages-none (rw e at (f .front-right)) in
+          let total = bytes-from file (s + w * h) (f .front) (f .rest) (f .stands) in
+          omega (arith, total, ap length front, l)
+
 abbrev Judged : List ℕ → ℕ → List Found → Type 0
-Judged file at pictures = Shown at (drop at file) pictures ⊎ Faulty pictures
+Judged file at pictures = Shown at (drop at file) pictures ⊎ Faulty file at
 
 -- either it is, or there is nothing but pages from there on
 pub found-shown : (fuel : ℕ) (file : List ℕ) (at : ℕ) → length file < fuel + at → at ≤ length file → Judged file at (pictures-from fuel file at)
-unfolding pictures-from unless-faulty
+unfolding pictures-from
 found-shown zero file at enough within = absurd (omega arith)
 found-shown (suc k) file at enough within = go (picture-at file at) refl (found-shown k file)
   where
-    more : (w h m s : ℕ) → picture-at file at ≡ Picture w h m s → Judged file (s + w * h) (pictures-from k file (s + w * h)) → Judged file at (Picture w h m s ∷ pictures-from k file (s + w * h))
-    more w h m s e (inl shown) = inl (shown-then file at w h m s e (pictures-from k file (s + w * h)) shown)
-    more w h m s e (inr f) = inr (record { cause = f .cause; given = f .given; small = f .small })
+    more : (w h m s : ℕ) → picture-at file at ≡ Picture w h m s → s + w * h < length file → Judged file (s + w * h) (pictures-from k file (s + w * h)) → Judged file at (Picture w h m s ∷ pictures-from k file (s + w * h))
+    more w h m s e l (inl shown) = inl (shown-then file at w h m s e (pictures-from k file (s + w * h)) shown)
+    more w h m s e l (inr f) = inr (faulty-then file at w h m s e l f)
 
     last : (w h m s : ℕ) → picture-at file at ≡ Picture w h m s → ((next : ℕ) → length file < k + next → next ≤ length file → Judged file next (pictures-from k file next)) → (t : Bool) → ltb (s + w * h) (length file) ≡ t → Judged file at (Picture w h m s ∷ cond t (pictures-from k file (s + w * h)) [])
     last w h m s e on true l =
         let b = goes-on file at w h m s e in
-        more w h m s e (on (s + w * h) (omega (arith, b .0)) (b .1))
+        more w h m s e (ltb-true (s + w * h) (length file) l) (on (s + w * h) (omega (arith, b .0)) (b .1))
     last w h m s e on false l = inl (shown-last file at w h m s e (ltb-false (s + w * h) (length file) l))
 
     go : (found : Found) → picture-at file at ≡ found → ((next : ℕ) → length file < k + next → next ≤ length file → Judged file next (pictures-from k file next)) → Judged file at (picture-at file at ∷ after-picture file (pictures-from k file) (picture-at file at))
-    go (Refused cause) e on = rw e (inr (record { cause = cause; given = λ answer. refl; small = picture-few file cause at e }))
+    go (Refused cause) e on = rw e (inr (faulty-here file at cause e))
     go (Picture w h m s) e on = rw e (last w h m s e on (ltb (s + w * h) (length file)) refl)

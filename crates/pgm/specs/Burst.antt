@@ -1,8 +1,12 @@
 -- A file as a sequence of pages, "several pictures end to end, as the Netpbm page allows".
-use Prim.Native.Nat.{ℕ, suc, _+_}
+use Prim.Native.Nat.{ℕ, suc, _+_, _≤_}
 use mathlib.Core.Path.{_≡_}
 use mathlib.Core.List.{List, [], _++_}
+use mathlib.Core.Logic.{_⊎_}
 use lib.ListN.{length, take}
+use Rattle.causes.specs.declared.Cause.{Cause}
+use Rattle.pgm_read.specs.Read.{picture-at}
+use Rattle.pgm_read.specs.declared.Found.the-variants.{Refused}
 use Rattle.pgm_write.specs.Write.{write-answer, buffer-after}
 use Rattle.pgm_write.specs.declared.Written.the-variants.{Bytes}
 use Rattle.pgm.specs.Page.{Page}
@@ -26,6 +30,16 @@ pub record Numbered (file : List ℕ) (number width height maximum start : ℕ) 
   pub after-right : Pages later after
   pub number-right : number ≡ earlier + 1
   pub start-right : start ≡ length before + own
+
+-- "the first faulty picture": there are pages before it, and it starts where they end; in an empty file, at its start
+pub record FirstFaulty (file : List ℕ) (cause : Cause) : Type 0 where
+  pub before : List ℕ
+  pub rest : List ℕ
+  pub earlier : ℕ
+  pub layout : file ≡ before ++ rest
+  pub before-right : Pages earlier before
+  pub more : (earlier ≡ 0) ⊎ (1 ≤ length rest)
+  pub faulty : picture-at file (length before) ≡ Refused cause
 
 -- "the sequence written": the bytes of so many accepted calls of the writer, end to end
 pub data Written : ℕ → List ℕ → Type 0 where
