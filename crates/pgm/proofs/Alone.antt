@@ -2,7 +2,7 @@
 -- picture, as it stood before a file could hold several, and that it is still the answer. Assumes nothing.
 use Prim.Native.Nat.{ℕ, _+_, _*_, _-_, _≤_}
 use mathlib.Core.Path.{_≡_, refl, _∙_, ap}
-use mathlib.Core.Bool.{Bool, true, false}
+use mathlib.Core.Bool.{Bool, true, false, cond}
 use mathlib.Core.List.{List}
 use native.Mathlib.Omega.{arith}
 use lib.Dec.{eqb, leb}
@@ -16,7 +16,7 @@ use Rattle.pgm_values.specs.Values.{maximum-fits, all-at-most}
 use Rattle.pgm_header.specs.Header.{sign, starts-with-sign, header-at}
 use Rattle.pgm_header.specs.declared.Header.{Header}
 use Rattle.pgm_header.specs.declared.Header.the-variants.{Read, Broken}
-use Rattle.pgm_read.specs.Read.{judged, picture-at, pictures-from, unless-faulty, read-answer}
+use Rattle.pgm_read.specs.Read.{judged, picture-at, pictures-from, unless-faulty, read-answer, raster-part, raster-of}
 use Rattle.pgm_read.specs.declared.Found.{Found}
 use Rattle.pgm_read.specs.declared.Found.the-variants.{Picture, Refused}
 use Rattle.pgm_read.proofs.Judging.{accepted}
@@ -34,22 +34,39 @@ judged-alone file (Read width height maximum start) =
 unfoldable pub answer-alone : List ℕ → Found
 answer-alone file = must Refused (starts-with-sign file) Sign (judged-alone file (header-at file (length sign)))
 
--- no byte stands after the first raster
+-- no byte stands after the first raster, where the file has one: its first header is read, and the maximum and the sides fit
 abbrev pub No-more : List ℕ → Type 0
-No-more file = (width height maximum start : ℕ) → header-at file 2 ≡ Read width height maximum start → length file ≤ start + width * height
+No-more file =
+    (width height maximum start : ℕ)
+    → starts-with-sign file ≡ true
+    → header-at file (length sign) ≡ Read width height maximum start
+    → maximum-fits maximum ≡ true
+    → sides-fit width height ≡ true
+    → length file ≤ start + width * height
 
-judged-same : (file : List ℕ) (header : Header) → ((width height maximum start : ℕ) → header ≡ Read width height maximum start → length file ≤ start + width * height) → judged file header ≡ judged-alone file header
+-- then the raster is all that follows the header
+module _ (file : List ℕ) (w h m s : ℕ) (few : length file ≤ s + w * h) where
+  raster-all : {A : Type 0} (sample : List ℕ → A) (short : A) → cond (leb (w * h) (length file - s)) (sample (take (w * h) (drop s file))) short ≡ cond (eqb (length file - s) (w * h)) (sample (drop s file)) short
+  raster-all sample short = go (eqb (length file - s) (w * h)) refl
+    where
+      go : (t : Bool) → eqb (length file - s) (w * h) ≡ t → cond (leb (w * h) (length file - s)) (sample (take (w * h) (drop s file))) short ≡ cond t (sample (drop s file)) short
+      go true e =
+          let all : length file - s ≡ w * h = eqb-true (length file - s) (w * h) e in
+          simp (le-leb (w * h) (length file - s) (omega arith), take-all (w * h) (drop s file) (omega (arith, length-drop s file)))
+      go false e =
+          let some = eqb-false (length file - s) (w * h) e in
+          simp (lt-leb (w * h) (length file - s) (omega arith))
+
+judged-same : (file : List ℕ) (header : Header) → ((w h m s : ℕ) → header ≡ Read w h m s → maximum-fits m ≡ true → sides-fit w h ≡ true → length file ≤ s + w * h) → judged file header ≡ judged-alone file header
 unfolding judged judged-alone
 judged-same file Broken few = refl
-judged-same file (Read w h m s) few = go (eqb (length file - s) (w * h)) refl
+judged-same file (Read w h m s) few = go (maximum-fits m) (sides-fit w h) refl refl
   where
-    go : (t : Bool) → eqb (length file - s) (w * h) ≡ t → must Refused (maximum-fits m) Maximum (must Refused (sides-fit w h) Sides (must Refused (leb (w * h) (length file - s)) RasterLength (must Refused (all-at-most m (take (w * h) (drop s file))) Sample (Picture w h m s)))) ≡ must Refused (maximum-fits m) Maximum (must Refused (sides-fit w h) Sides (must Refused (eqb (length file - s) (w * h)) RasterLength (must Refused (all-at-most m (drop s file)) Sample (Picture w h m s))))
-    go true e =
-        let all : length file - s ≡ w * h = eqb-true (length file - s) (w * h) e in
-        simp (e, le-leb (w * h) (length file - s) (omega arith), take-all (w * h) (drop s file) (omega (arith, length-drop s file)))
-    go false e =
-        let some = eqb-false (length file - s) (w * h) e in
-        simp (e, lt-leb (w * h) (length file - s) (omega (arith, few w h m s refl)))
+    go : (t u : Bool) → maximum-fits m ≡ t → sides-fit w h ≡ u → judged file (Read w h m s) ≡ judged-alone file (Read w h m s)
+    go false u e f = simp e
+    go true false e f = simp (e, f)
+    go true true e f =
+        simp (e, f) (raster-all file w h m s (few w h m s refl e f) (λ (l : List ℕ). must Refused (all-at-most m l) Sample (Picture w h m s)) (Refused RasterLength))
 
 -- a file with nothing after its first picture answers as that picture
 first-only : (file : List ℕ) → ((w h m s : ℕ) → picture-at file 0 ≡ Picture w h m s → length file ≤ s + w * h) → read-answer file 1 ≡ picture-at file 0
@@ -60,8 +77,19 @@ first-only file few = go (picture-at file 0) refl
     go (Refused cause) e = rw e refl
     go (Picture w h m s) e = rw (e, le-ltb (s + w * h) (length file) (few w h m s e)) refl
 
-pub alone : (file : List ℕ) → No-more file → read-answer file 1 ≡ answer-alone file
+picture-same : (file : List ℕ) → No-more file → picture-at file 0 ≡ answer-alone file
 unfolding picture-at answer-alone
+picture-same file few = go (starts-with-sign file) refl
+  where
+    go : (t : Bool) → starts-with-sign file ≡ t → picture-at file 0 ≡ answer-alone file
+    go true e = simp e (judged-same file (header-at file 2) (λ w h m s. few w h m s e))
+    go false e = simp e
+
+pub alone : (file : List ℕ) → No-more file → read-answer file 1 ≡ answer-alone file
 alone file few =
-    first-only file (λ w h m s e. few w h m s (accepted file 0 w h m s e .1 .header))
-    ∙ ap (must Refused (starts-with-sign file) Sign) (judged-same file (header-at file 2) few)
+    first-only file (λ w h m s e. let a = accepted file 0 w h m s e in few w h m s (a .0) (a .1 .header) (a .1 .maximum-right) (a .1 .sides-right))
+    ∙ picture-same file few
+
+-- and so the raster is the one before, all that follows the header
+pub alone-raster : (file : List ℕ) → No-more file → raster-of file 1 ≡ raster-part file (answer-alone file)
+alone-raster file few = ap (raster-part file) (alone file few)

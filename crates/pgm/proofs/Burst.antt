@@ -1,6 +1,7 @@
--- An accepted file is exactly a sequence of pages: `accepted-page` gives the page of the number, among pages before and after it;
--- `page-accepted` gives the answer and the raster where there is such a page. Else the number is not that of a page (`beyond`, `not-named`),
--- or a picture after some pages is faulty, and the first such gives the cause (`faulty-refused`, `refused-faulty`). Assumes nothing.
+-- An accepted file is exactly a sequence of pages: `accepted-page` gives the page of the number, among pages before and after it, and
+-- `page-accepted` the answer and the raster where there is such a page. Of a file of pages the numbers from 1 to their count are accepted
+-- (`pages-accepted`), and no others (`beyond`, `not-named`). In any other file a picture after some pages is faulty, and the first such
+-- gives the cause (`faulty-refused`, `refused-faulty`). Assumes nothing.
 use Prim.Native.Nat.{ℕ, zero, suc, _+_, _-_, _≤_, _<_}
 use mathlib.Core.Path.{_≡_, refl, sym, _∙_, ap}
 use mathlib.Core.Bool.{Bool, true, false, _&&_}
@@ -199,16 +200,33 @@ module _ (file : List ℕ) (number : ℕ) where
         } in
         rw (page-accepted n .1) n
 
+shown-picture : {at : ℕ} {bytes : List ℕ} {shown : List Found} → Shown at bytes shown → (place : ℕ) → place < length shown
+    → (width height maximum start : ℕ) × (getD shown place (Refused PictureNumber) ≡ Picture width height maximum start)
+shown-picture nothing place l = absurd (omega arith)
+shown-picture (page p f s) zero l = (_, _, _, _, refl)
+shown-picture (page p f s) (suc place) l = shown-picture s place (omega arith)
+
+-- every number from 1 to their count is that of a picture of a file of pages
+pub pages-accepted : {file : List ℕ} {count : ℕ} → Pages count file → (number : ℕ) → 1 ≤ number → number ≤ count
+    → (width height maximum start : ℕ) × (read-answer file number ≡ Picture width height maximum start)
+pages-accepted p number one most =
+    let s = pages-shown p 0 in
+    let f = shown-picture (s .1) (number - 1) (omega (arith, s .2)) in
+    (f .0, f .1, f .2, f .3, shown-answer (s .1) number one (omega (arith, s .2)) ∙ f .4)
+
 -- no picture of a file of pages has a number outside 1 to their count
 pub beyond : {file : List ℕ} {count : ℕ} → Pages count file → 1 ≤ count → (number : ℕ) → (number ≡ 0) ⊎ (count < number) → read-answer file number ≡ Refused PictureNumber
 beyond p some number out =
     let s = pages-shown p 0 in
     shown-beyond (s .1) number (omega (arith, s .2)) (rw (s .2) out)
 
-shown-no-cause : {at : ℕ} {bytes : List ℕ} {shown : List Found} → Shown at bytes shown → (place : ℕ) (cause : Cause) → place < length shown → getD shown place (Refused PictureNumber) ≡ Refused cause → ⊥
-shown-no-cause nothing place cause l e = absurd (omega arith)
-shown-no-cause (page p f s) zero cause l e = let z : _≡_ {A = ℕ} 0 1 = cc in omega arith
-shown-no-cause (page p f s) (suc place) cause l e = shown-no-cause s place cause (omega arith) e
+shown-no-cause : {at : ℕ} {bytes : List ℕ} {shown : List Found} → Shown at bytes shown → (place : ℕ) (cause : Cause) → place < length shown
+    → getD shown place (Refused PictureNumber) ≡ Refused cause → ⊥
+shown-no-cause s place cause l e =
+    let f = shown-picture s place l in
+    let g : Refused cause ≡ Picture (f .0) (f .1) (f .2) (f .3) = sym e ∙ f .4 in
+    let z : _≡_ {A = ℕ} 0 1 = cc in
+    omega arith
 
 -- and only of such a file, for such a number, is that the cause
 pub not-named : (file : List ℕ) (number : ℕ) → read-answer file number ≡ Refused PictureNumber → (count : ℕ) × Pages count file × (1 ≤ count) × ((number ≡ 0) ⊎ (count < number))

@@ -88,7 +88,10 @@ shown-found (suc k) file {at} enough (page {end = end} {width = w} {height = h} 
         (on f rest q)
 
 -- a file with pages from a position on, and then a faulty picture, is refused by its cause
-pub shown-faulty : (fuel : ℕ) (file : List ℕ) {at : ℕ} {bytes : List ℕ} {pictures : List Found} → length file < fuel + at → at ≤ length file → Shown at bytes pictures → (rest : List ℕ) → drop at file ≡ bytes ++ rest → (pictures ≡ []) ⊎ (1 ≤ length rest) → (cause : Cause) → picture-at file (at + length bytes) ≡ Refused cause → (answer : Found) → unless-faulty (pictures-from fuel file at) answer ≡ Refused cause
+pub shown-faulty : (fuel : ℕ) (file : List ℕ) {at : ℕ} {bytes : List ℕ} {pictures : List Found} → length file < fuel + at → at ≤ length file
+    → Shown at bytes pictures → (rest : List ℕ) → drop at file ≡ bytes ++ rest → (pictures ≡ []) ⊎ (1 ≤ length rest)
+    → (cause : Cause) → picture-at file (at + length bytes) ≡ Refused cause → (answer : Found)
+    → unless-faulty (pictures-from fuel file at) answer ≡ Refused cause
 unfolding pictures-from unless-faulty
 shown-faulty zero file enough within s rest here more cause there answer = absurd (omega arith)
 shown-faulty (suc k) file {at} enough within nothing rest here more cause there answer = rw (rw (add-zero at) at there)
@@ -190,25 +193,25 @@ module _ (file : List ℕ) (at : ℕ) where
           let total = bytes-from file (s + w * h) (f .front) (f .rest) (f .stands) in
           omega (arith, total, ap length front, l)
 
-abbrev Judged : List ℕ → ℕ → List Found → Type 0
-Judged file at pictures = Shown at (drop at file) pictures ⊎ Faulty file at
+abbrev PagesOrFault : List ℕ → ℕ → List Found → Type 0
+PagesOrFault file at pictures = Shown at (drop at file) pictures ⊎ Faulty file at
 
 -- either it is, or there is nothing but pages from there on
-pub found-shown : (fuel : ℕ) (file : List ℕ) (at : ℕ) → length file < fuel + at → at ≤ length file → Judged file at (pictures-from fuel file at)
+pub found-shown : (fuel : ℕ) (file : List ℕ) (at : ℕ) → length file < fuel + at → at ≤ length file → PagesOrFault file at (pictures-from fuel file at)
 unfolding pictures-from
 found-shown zero file at enough within = absurd (omega arith)
 found-shown (suc k) file at enough within = go (picture-at file at) refl (found-shown k file)
   where
-    more : (w h m s : ℕ) → picture-at file at ≡ Picture w h m s → s + w * h < length file → Judged file (s + w * h) (pictures-from k file (s + w * h)) → Judged file at (Picture w h m s ∷ pictures-from k file (s + w * h))
+    more : (w h m s : ℕ) → picture-at file at ≡ Picture w h m s → s + w * h < length file → PagesOrFault file (s + w * h) (pictures-from k file (s + w * h)) → PagesOrFault file at (Picture w h m s ∷ pictures-from k file (s + w * h))
     more w h m s e l (inl shown) = inl (shown-then file at w h m s e (pictures-from k file (s + w * h)) shown)
     more w h m s e l (inr f) = inr (faulty-then file at w h m s e l f)
 
-    last : (w h m s : ℕ) → picture-at file at ≡ Picture w h m s → ((next : ℕ) → length file < k + next → next ≤ length file → Judged file next (pictures-from k file next)) → (t : Bool) → ltb (s + w * h) (length file) ≡ t → Judged file at (Picture w h m s ∷ cond t (pictures-from k file (s + w * h)) [])
+    last : (w h m s : ℕ) → picture-at file at ≡ Picture w h m s → ((next : ℕ) → length file < k + next → next ≤ length file → PagesOrFault file next (pictures-from k file next)) → (t : Bool) → ltb (s + w * h) (length file) ≡ t → PagesOrFault file at (Picture w h m s ∷ cond t (pictures-from k file (s + w * h)) [])
     last w h m s e on true l =
         let b = goes-on file at w h m s e in
         more w h m s e (ltb-true (s + w * h) (length file) l) (on (s + w * h) (omega (arith, b .0)) (b .1))
     last w h m s e on false l = inl (shown-last file at w h m s e (ltb-false (s + w * h) (length file) l))
 
-    go : (found : Found) → picture-at file at ≡ found → ((next : ℕ) → length file < k + next → next ≤ length file → Judged file next (pictures-from k file next)) → Judged file at (picture-at file at ∷ after-picture file (pictures-from k file) (picture-at file at))
+    go : (found : Found) → picture-at file at ≡ found → ((next : ℕ) → length file < k + next → next ≤ length file → PagesOrFault file next (pictures-from k file next)) → PagesOrFault file at (picture-at file at ∷ after-picture file (pictures-from k file) (picture-at file at))
     go (Refused cause) e on = rw e (inr (faulty-here file at cause e))
     go (Picture w h m s) e on = rw e (last w h m s e on (ltb (s + w * h) (length file)) refl)

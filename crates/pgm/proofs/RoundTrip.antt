@@ -16,9 +16,9 @@ use Rattle.pgm_write.specs.Write.{digits-of, pgm-file, write-answer, buffer-aft
 use Rattle.pgm.specs.Page.{Number, Page}
 use Rattle.pgm.specs.Page.Gap.{starts}
 use Rattle.pgm.specs.Page.GapRest.{done}
-use Rattle.pgm.specs.Burst.{Pages, Written}
+use Rattle.pgm.specs.Burst.{Pages, WrittenInTurn}
 use Rattle.pgm.specs.Burst.Pages.{none as no-pages, then as one-page}
-use Rattle.pgm.specs.Burst.Written.{none, then}
+use Rattle.pgm.specs.Burst.WrittenInTurn.{none, then}
 use Rattle.causes.specs.declared.Cause.the-variants.{PictureNumber}
 use Rattle.pgm_read.specs.declared.Found.the-variants.{Picture, Refused}
 use Rattle.pgm_write.specs.declared.Written.the-variants.{Bytes}
@@ -82,14 +82,14 @@ module _ (picture : List ℕ) (width height maximum : ℕ) (buffer : List ℕ) (
       rw (written-file picture width height maximum buffer total e) (file-page (writable-is picture width height maximum (length buffer) total e))
 
 -- what was written in turn is a sequence of pages
-pub written-pages : {count : ℕ} {bytes : List ℕ} → Written count bytes → Pages count bytes
+pub written-pages : {count : ℕ} {bytes : List ℕ} → WrittenInTurn count bytes → Pages count bytes
 written-pages none = no-pages
 written-pages (then picture width height maximum buffer total e rest) =
     one-page (written-page picture width height maximum buffer total e) (written-pages rest)
 
 module _ (picture : List ℕ) (width height maximum : ℕ) (buffer : List ℕ) (total : ℕ) (e : write-answer picture width height maximum (length buffer) ≡ Bytes total) where
   -- "Round trip covers greys and maximum", and "covers the sequence written"
-  pub round-trip : {earlier later : ℕ} {before after : List ℕ} → Written earlier before → Written later after → let file : List ℕ = before ++ take total (buffer-after picture width height maximum buffer) ++ after in (read-answer file (earlier + 1) ≡ Picture width height maximum (length before + (total - width * height))) × (raster-of file (earlier + 1) ≡ picture)
+  pub round-trip : {earlier later : ℕ} {before after : List ℕ} → WrittenInTurn earlier before → WrittenInTurn later after → let file : List ℕ = before ++ take total (buffer-after picture width height maximum buffer) ++ after in (read-answer file (earlier + 1) ≡ Picture width height maximum (length before + (total - width * height))) × (raster-of file (earlier + 1) ≡ picture)
   round-trip b a =
       page-accepted (record {
         before = _;
@@ -112,5 +112,5 @@ round-trip-alone picture width height maximum buffer total e =
     rw (append-nil, zero-add (total - width * height)) at (round-trip picture width height maximum buffer total e none none)
 
 -- the count is theirs: no other number is accepted
-pub round-trip-count : {file : List ℕ} {count : ℕ} → Written count file → 1 ≤ count → (number : ℕ) → (number ≡ 0) ⊎ (count < number) → read-answer file number ≡ Refused PictureNumber
+pub round-trip-count : {file : List ℕ} {count : ℕ} → WrittenInTurn count file → 1 ≤ count → (number : ℕ) → (number ≡ 0) ⊎ (count < number) → read-answer file number ≡ Refused PictureNumber
 round-trip-count w = beyond (written-pages w)

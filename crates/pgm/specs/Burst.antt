@@ -14,7 +14,11 @@ use Rattle.pgm.specs.Page.{Page}
 -- so many pages, end to end
 pub data Pages : ℕ → List ℕ → Type 0 where
   none : Pages 0 []
-  then : {page rest raster : List ℕ} {count width height maximum start : ℕ} → Page page width height maximum start raster → Pages count rest → Pages (suc count) (page ++ rest)
+  then :
+      {page rest raster : List ℕ} {count width height maximum start : ℕ}
+      → Page page width height maximum start raster
+      → Pages count rest
+      → Pages (suc count) (page ++ rest)
 
 -- the page that has a number in a file, "from 1 up": there are pages before it, one fewer than the number, and pages after it
 pub record Numbered (file : List ℕ) (number width height maximum start : ℕ) (raster : List ℕ) : Type 0 where
@@ -41,7 +45,11 @@ pub record FirstFaulty (file : List ℕ) (cause : Cause) : Type 0 where
   pub more : (earlier ≡ 0) ⊎ (1 ≤ length rest)
   pub faulty : picture-at file (length before) ≡ Refused cause
 
--- "the sequence written": the bytes of so many accepted calls of the writer, end to end
-pub data Written : ℕ → List ℕ → Type 0 where
-  none : Written 0 []
-  then : (picture : List ℕ) (width height maximum : ℕ) (buffer : List ℕ) (total : ℕ) {count : ℕ} {rest : List ℕ} → write-answer picture width height maximum (length buffer) ≡ Bytes total → Written count rest → Written (suc count) (take total (buffer-after picture width height maximum buffer) ++ rest)
+-- "the sequence written": the bytes of so many accepted calls of the writer, one after the other
+pub data WrittenInTurn : ℕ → List ℕ → Type 0 where
+  none : WrittenInTurn 0 []
+  then :
+      (picture : List ℕ) (width height maximum : ℕ) (buffer : List ℕ) (total : ℕ) {count : ℕ} {rest : List ℕ}
+      → write-answer picture width height maximum (length buffer) ≡ Bytes total
+      → WrittenInTurn count rest
+      → WrittenInTurn (suc count) (take total (buffer-after picture width height maximum buffer) ++ rest)

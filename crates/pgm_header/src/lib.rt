@@ -12,6 +12,7 @@ pub mod reader;
 // "P5"
 pub const MAGIC: [u8; 2] = [80, 53];
 
+// How many bytes the magic has.
 pub const MAGIC_LENGTH: usize = 2;
 
 // A number has at most this many digits.
@@ -78,7 +79,7 @@ pub enum Header {
 pub fn has_sign(file: &[u8]) -> bool
     ensures answer { λ r. ⌜ r ≡ starts-with-sign (now (file .entry)) ⌝ }
 {
-    if file.len() < 2 {
+    if file.len() < MAGIC_LENGTH {
         return false;
     }
     if file[0] != MAGIC[0] {

@@ -14,8 +14,8 @@ use Rattle.pgm_header.specs.declared.Header.{Header}
 use Rattle.pgm_header.specs.declared.Header.the-variants.{Read, Broken}
 use Rattle.pgm_read.specs.declared.Found.{Found}
 use Rattle.pgm_read.specs.declared.Found.the-variants.{Picture, Refused}
-use Rattle.pgm_read.specs.declared.Named.{Named}
-use Rattle.pgm_read.specs.declared.Named.the-variants.{Picture as Found-at, Refused as Not-found}
+use Rattle.pgm_read.specs.declared.Located.{Located}
+use Rattle.pgm_read.specs.declared.Located.the-variants.{Picture as Found-at, Refused as Not-found}
 use Rattle.pgm_read.specs.declared.Span.{Span}
 
 -- a whole header, judged: the maximum, the sides, the number of raster bytes ("a raster cut short stays 11"), the samples
@@ -79,10 +79,10 @@ abbrev pub raster-of : List ℕ → ℕ → List ℕ
 raster-of file number = raster-part file (read-answer file number)
 
 -- a picture that was found at a position: what it is, and what stands at the position
-abbrev pub found-in : Named → Found
+abbrev pub found-in : Located → Found
 found-in (Found-at at width height maximum start) = Picture width height maximum start
 found-in (Not-found cause) = Refused cause
 
-abbrev pub found-there : List ℕ → Named → Found
+abbrev pub found-there : List ℕ → Located → Found
 found-there file (Found-at at width height maximum start) = picture-at file at
 found-there file (Not-found cause) = Refused cause

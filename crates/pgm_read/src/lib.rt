@@ -22,7 +22,7 @@ pub enum Found {
 }
 
 // The same, with the position where the picture itself starts.
-enum Named {
+enum Located {
     Picture {
         at: usize,
         width: u32,
@@ -96,15 +96,15 @@ fn picture_at(file: &[u8], at: usize) -> Found
     judge(file, reader::header_of(file, at + pgm_header::MAGIC_LENGTH))
 }
 
-// One less, and 0 from 0 on.
+// One less; 0 stays 0.
 fn one_less(left: usize) -> usize
     ensures { λ r. ⌜ r ≡ left - 1 ⌝ }
 {
     if left == 0 { 0 } else { left - 1 }
 }
 
-// What is held after a picture of which the number that is left says whether it is the one named: at 1 it is.
-fn hold(held: Named, left: usize, picture: Named) -> Named
+// The picture if the number that is left is 1, else what is held.
+fn hold(held: Located, left: usize, picture: Located) -> Located
     ensures { λ r. ⌜ r ≡ cond (eqb left 1) picture held ⌝ }
 {
     if left == 1 { picture } else { held }
@@ -112,13 +112,13 @@ fn hold(held: Named, left: usize, picture: Named) -> Named
 
 // The picture of a number. Every picture of the file is judged, one after the other, and the one that has the number is held. The
 // number is counted down, so that no count can overflow.
-fn pick(file: &[u8], number: usize) -> Named
+fn pick(file: &[u8], number: usize) -> Located
     ensures { λ r. ⌜ found-in r ≡ read-answer (now (file .entry)) number ⌝ }
     ensures { λ r. ⌜ found-there (now (file .entry)) r ≡ read-answer (now (file .entry)) number ⌝ }
 {
     let mut at = 0;
     let mut left = number;
-    let mut held = Named::Refused(Cause::PictureNumber);
+    let mut held = Located::Refused(Cause::PictureNumber);
     loop {
         match picture_at(file, at) {
             Found::Picture {
@@ -127,7 +127,7 @@ fn pick(file: &[u8], number: usize) -> Named
                 maximum,
                 start,
             } => {
-                let picture = Named::Picture {
+                let picture = Located::Picture {
                     at,
                     width,
                     height,
@@ -142,7 +142,7 @@ fn pick(file: &[u8], number: usize) -> Named
                 }
             }
             Found::Refused(cause) => {
-                return Named::Refused(cause);
+                return Located::Refused(cause);
             }
         }
     }
@@ -154,7 +154,7 @@ pub fn read(file: &[u8], number: usize) -> Found
     ensures answer { λ r. ⌜ found-numbers r ≡ found-numbers (read-answer (now (file .entry)) number) ⌝ }
 {
     match pick(file, number) {
-        Named::Picture {
+        Located::Picture {
             at: _,
             width,
             height,
@@ -166,7 +166,7 @@ pub fn read(file: &[u8], number: usize) -> Found
             maximum,
             start,
         },
-        Named::Refused(cause) => Found::Refused(cause),
+        Located::Refused(cause) => Found::Refused(cause),
     }
 }
 
@@ -206,13 +206,13 @@ pub fn raster(file: &[u8], number: usize) -> &[u8]
     ensures raster { λ r. ⌜ now r ≡ raster-of (now (file .entry)) number ⌝ }
 {
     match pick(file, number) {
-        Named::Picture {
+        Located::Picture {
             at,
             width: _,
             height: _,
             maximum: _,
             start: _,
         } => raster_after_sign(file, at + pgm_header::MAGIC_LENGTH),
-        Named::Refused(_) => &file[..0],
+        Located::Refused(_) => &file[..0],
     }
 }
