@@ -219,7 +219,7 @@ static int starts(int count, char **words, int place, const char *start) {
 static uint64_t picture_named(const char *word) {
     uint64_t number;
     if (!is_number_to(word, '\0', 20, UINT64_MAX, &number))
-        fail(WRONG_USE, "'%s' numbers no picture: pictures have whole numbers from 1, in 1 to 20 digits and nothing else", word);
+        fail(WRONG_USE, "'%s' numbers no picture: a picture's number is whole, from 1, in 1 to 20 digits and within 64 bits", word);
     return number;
 }
 

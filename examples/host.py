@@ -97,7 +97,7 @@ def starts(words, place, start):
 
 def picture_named(word):
     if not is_number(word, 20, 64):
-        raise Failure(WRONG_USE, f"'{word}' numbers no picture: pictures have whole numbers from 1, in 1 to 20 digits and nothing else")
+        raise Failure(WRONG_USE, f"'{word}' numbers no picture: a picture's number is whole, from 1, in 1 to 20 digits and within 64 bits")
     return int(word)
 
 

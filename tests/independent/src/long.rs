@@ -290,6 +290,14 @@ fn on_long_comments(report: &mut Report, random: &mut Random) {
     check_read(report, random, &file, 3, Ok(due));
     let file = with_comment(first, comment - 1, further);
     check_read(report, random, &file, 1, Ok(head(3, 2, 255, 11)));
+
+    // What stands beyond 2^32 is judged though the first picture is named, and then the number.
+    check_read(report, random, &file, 4, Err(18));
+    for (end, cause) in [(&b"\x08"[..], 11), (b"\x08\x0a", 12)] {
+        let further = [b"\n2 1\n7\n\x07\x00P5 1 2 9\n", end].concat();
+        let file = with_comment(first, bytes, &further);
+        check_read(report, random, &file, 1, Err(cause));
+    }
 }
 
 /// A longer buffer is as good as another; a picture that is too long is refused.
@@ -350,6 +358,6 @@ pub fn run(report: &mut Report, seed: u64) {
         report.check_all_met(name, &[1, 2, 3, 17, 4, 19, 5, 6]);
     }
     report.check_all_met("long view", &[1, 6]);
-    report.check_all_met("long read", &[0, 8, 9, 10, 1]);
+    report.check_all_met("long read", &[0, 8, 9, 10, 1, 11, 12, 18]);
     report.check_all_met("long write", &[0, 1, 2, 10, 12]);
 }
