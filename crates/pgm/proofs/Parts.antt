@@ -13,7 +13,7 @@ use borrow.Author.Tests.{eqb-true, lt-ltb, le-leb, ne-eqb}
 use Rattle.causes.proofs.Laws.{both-true}
 use Rattle.causes.proofs.Lists.{from-here}
 use Rattle.pgm_header.specs.Bytes.{is-white, is-digit, move-of, by-move, white-move, digit-move, ends-comment}
-use Rattle.pgm_header.specs.Header.{most-digits, gap-length, digit-count, decimal-value, white-at, number-at, part-at}
+use Rattle.pgm_header.specs.Header.{most-digits, gap-length, digit-count, decimal-value, white-at, number-at}
 use Rattle.pgm.specs.Page.{GapRest, Gap, Number}
 use Rattle.pgm.specs.Page.Gap.{starts}
 use Rattle.pgm.specs.Page.GapRest.{done, white, comment, remark, newline}
@@ -21,6 +21,7 @@ use Rattle.pgm_header.specs.declared.Move.{Move}
 use Rattle.pgm_header.specs.declared.Move.the-variants.{White, Digit, Comment, Foreign}
 use Rattle.pgm_header.specs.declared.Part.the-variants.{Value}
 use Rattle.pgm_header.proofs.Moves.{comment-35}
+use Rattle.pgm_header.proofs.Parts.{part-at}
 use Rattle.pgm_header.proofs.Scan.{white-below, Stops, stops-at}
 use Rattle.pgm_header.proofs.Whole.{part-found}
 

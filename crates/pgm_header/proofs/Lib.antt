@@ -1,3 +1,4 @@
+pub mod Parts
 pub mod Moves
 pub mod Scan
 pub mod Readers

@@ -12,7 +12,8 @@ use borrow.Author.Tests.{le-leb, lt-leb, eq-eqb, leb-true, ltb-true}
 use Rattle.causes.proofs.Laws.{both-true}
 use Rattle.causes.proofs.Lists.{from-here}
 use Rattle.pgm_header.specs.Bytes.{move-of, is-white, is-digit, white-move, digit-move, ends-comment}
-use Rattle.pgm_header.specs.Header.{starts-with-sign, gap-length, digit-count, decimal-value, most-digits, finished-number, number-at, white-at, part-at, last-white-at, maximum-at, height-at, header-at}
+use Rattle.pgm_header.specs.Header.{starts-with-sign, gap-length, digit-count, decimal-value, most-digits, finished-number, number-at, white-at, header-at}
+use Rattle.pgm_header.proofs.Parts.{part-at, last-white-at, maximum-at, height-at, in-parts}
 use Rattle.pgm_header.specs.declared.Move.the-variants.{White, Digit, Comment, Foreign}
 use Rattle.pgm_header.specs.declared.Part.the-variants.{Value, Broken}
 use Rattle.pgm_header.specs.declared.Header.the-variants.{Read, Broken as BrokenHeader}
@@ -131,35 +132,40 @@ reading-done file from at value count r s =
 pub white-below : (file : List ℕ) (at : ℕ) → white-at file at ≡ true → at < length file
 white-below file at e = ltb-true at (length file) (both-true (ltb at (length file)) (white-move (move-of (getD file at 0))) e .0)
 
-pub part-after-gap : (file : List ℕ) (at digits : ℕ) → white-at file at ≡ true → digits ≡ at + gap-length false (drop at file) → number-at file digits ≡ part-at file at
+-- a gap is passed and a number follows, or there is none
+pub part-taken : (file : List ℕ) (at from number after : ℕ) → white-at file at ≡ true → from ≡ at + gap-length false (drop at file) → number-at file from ≡ Value number after → part-at file at ≡ Value number after
 unfolding part-at
-part-after-gap file at digits white e = simp (white, e)
+part-taken file at from number after white e n = simp (white, ← e, n)
 
-pub part-without-gap : (file : List ℕ) (at : ℕ) → white-at file at ≡ false → Broken ≡ part-at file at
+pub part-without-number : (file : List ℕ) (at from : ℕ) → white-at file at ≡ true → from ≡ at + gap-length false (drop at file) → number-at file from ≡ Broken → part-at file at ≡ Broken
+unfolding part-at
+part-without-number file at from white e n = simp (white, ← e, n)
+
+pub part-without-gap : (file : List ℕ) (at : ℕ) → white-at file at ≡ false → part-at file at ≡ Broken
 unfolding part-at
 part-without-gap file at e = simp e
 
 -- the header, part by part: where it breaks, and where it does not
 module _ (file : List ℕ) (at : ℕ) where
   pub no-width : part-at file at ≡ Broken → BrokenHeader ≡ header-at file at
-  unfolding header-at height-at
-  no-width e = rw e
+  unfolding height-at
+  no-width e = rw (in-parts file at, e)
 
   module _ (width a : ℕ) (e : part-at file at ≡ Value width a) where
     pub no-height : part-at file a ≡ Broken → BrokenHeader ≡ header-at file at
-    unfolding header-at height-at maximum-at
-    no-height f = rw (e, f)
+    unfolding height-at maximum-at
+    no-height f = rw (in-parts file at, e, f)
 
     module _ (height b : ℕ) (f : part-at file a ≡ Value height b) where
       pub no-maximum : part-at file b ≡ Broken → BrokenHeader ≡ header-at file at
-      unfolding header-at height-at maximum-at last-white-at
-      no-maximum g = rw (e, f, g)
+      unfolding height-at maximum-at last-white-at
+      no-maximum g = rw (in-parts file at, e, f, g)
 
       module _ (maximum c : ℕ) (g : part-at file b ≡ Value maximum c) where
         pub no-last-white : white-at file c ≡ false → BrokenHeader ≡ header-at file at
-        unfolding header-at height-at maximum-at last-white-at
-        no-last-white w = simp (e, f, g, w)
+        unfolding height-at maximum-at last-white-at
+        no-last-white w = simp (in-parts file at, e, f, g, w)
 
         pub whole-header : white-at file c ≡ true → Read width height maximum (c + 1) ≡ header-at file at
-        unfolding header-at height-at maximum-at last-white-at
-        whole-header w = simp (e, f, g, w)
+        unfolding height-at maximum-at last-white-at
+        whole-header w = simp (in-parts file at, e, f, g, w)

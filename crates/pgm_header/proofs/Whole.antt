@@ -7,7 +7,8 @@ use native.Mathlib.Omega.{arith}
 use lib.Dec.{eqb, leb}
 use lib.ListN.{drop}
 use borrow.Author.Tests.{eqb-false, leb-true}
-use Rattle.pgm_header.specs.Header.{most-digits, gap-length, digit-count, decimal-value, white-at, finished-number, number-at, part-at, last-white-at, maximum-at, height-at, header-at}
+use Rattle.pgm_header.specs.Header.{most-digits, gap-length, digit-count, decimal-value, white-at, finished-number, number-at, header-at}
+use Rattle.pgm_header.proofs.Parts.{part-at, last-white-at, maximum-at, height-at, in-parts}
 use Rattle.pgm_header.specs.declared.Part.{Part}
 use Rattle.pgm_header.specs.declared.Part.the-variants.{Value, Broken}
 use Rattle.pgm_header.specs.declared.Header.{Header}
@@ -75,10 +76,11 @@ module _ (width height maximum start : ℕ) where
   unbroken then b Broken e = absurd (broken-differs (sym b ∙ e))
 
   pub header-read : (file : List ℕ) (at : ℕ) → header-at file at ≡ Read width height maximum start → HeaderRead file at width height maximum start
-  unfolding header-at height-at maximum-at last-white-at
+  unfolding height-at maximum-at last-white-at
   header-read file at e =
-      let w = unbroken (height-at file) refl (part-at file at) e in
-      let e₁ = rw (w .2) at e in
+      let e₀ = rw (in-parts file at) at e in
+      let w = unbroken (height-at file) refl (part-at file at) e₀ in
+      let e₁ = rw (w .2) at e₀ in
       let h = unbroken (maximum-at file (w .0)) refl (part-at file (w .1)) e₁ in
       let e₂ = rw (h .2) at e₁ in
       let m = unbroken (last-white-at file (w .0) (h .0)) refl (part-at file (h .1)) e₂ in

@@ -54,23 +54,36 @@ number-at file at =
     (finished-number (decimal-value 0 (drop at file)) (digit-count (drop at file)) (at + digit-count (drop at file)))
     Broken
 
--- a gap, then a number
-unfoldable pub part-at : List ℕ → ℕ → Part
-part-at file at = cond (white-at file at) (number-at file (at + gap-length false (drop at file))) Broken
+-- The steps after the sign hand a position on: where a gap ends, what a number is and where it ends, where one white byte ends. A header
+-- in which a step does not find its part is broken
+abbrev pub gap-then : List ℕ → ℕ → (ℕ → Header) → Header
+gap-then file at next = cond (white-at file at) (next (at + gap-length false (drop at file))) BrokenHeader
 
--- "exactly one white byte", with which the header ends
-unfoldable pub last-white-at : List ℕ → ℕ → ℕ → Part → Header
-last-white-at file width height Broken = BrokenHeader
-last-white-at file width height (Value maximum at) = cond (white-at file at) (Read width height maximum (at + 1)) BrokenHeader
+abbrev pub found-then : Part → (ℕ → ℕ → Header) → Header
+found-then (Value number after) next = next number after
+found-then Broken next = BrokenHeader
 
-unfoldable pub maximum-at : List ℕ → ℕ → Part → Header
-maximum-at file width Broken = BrokenHeader
-maximum-at file width (Value height at) = last-white-at file width height (part-at file at)
+abbrev pub number-then : List ℕ → ℕ → (ℕ → ℕ → Header) → Header
+number-then file at next = found-then (number-at file at) next
 
-unfoldable pub height-at : List ℕ → Part → Header
-height-at file Broken = BrokenHeader
-height-at file (Value width at) = maximum-at file width (part-at file at)
+abbrev pub one-white-then : List ℕ → ℕ → (ℕ → Header) → Header
+one-white-then file at next = cond (white-at file at) (next (at + 1)) BrokenHeader
 
--- "Then a gap, width, gap, height, gap, maximum grey, exactly one white byte"
+-- "Then a gap, width, gap, height, gap, maximum grey, exactly one white byte": the header of a picture whose sign ends at a position
 unfoldable pub header-at : List ℕ → ℕ → Header
-header-at file at = height-at file (part-at file at)
+header-at file at =
+    -- 2. "Whitespace"
+    gap-then file at (λ width-at.
+    -- 3. "A width"
+    number-then file width-at (λ width width-end.
+    -- 4. "Whitespace"
+    gap-then file width-end (λ height-at.
+    -- 5. "A height"
+    number-then file height-at (λ height height-end.
+    -- 6. "Whitespace"
+    gap-then file height-end (λ maximum-at.
+    -- 7. "The maximum gray value"
+    number-then file maximum-at (λ maximum maximum-end.
+    -- 8. "A single whitespace character"
+    one-white-then file maximum-end (λ start.
+    Read width height maximum start)))))))

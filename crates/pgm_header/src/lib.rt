@@ -5,7 +5,7 @@ ghost use mathlib.Core.Bool.{false};
 ghost use Prim.Native.Nat.{_+_};
 ghost use lib.ListN.{drop};
 ghost use Rattle.pgm_header.specs.Bytes.{move-of, white-move, digit-move, ends-comment};
-ghost use Rattle.pgm_header.specs.Header.{starts-with-sign, gap-length, finished-number, number-at, white-at, part-at, header-at};
+ghost use Rattle.pgm_header.specs.Header.{starts-with-sign, gap-length, finished-number, number-at, white-at, header-at};
 
 pub mod reader;
 
@@ -169,38 +169,45 @@ fn white_at(file: &[u8], at: usize) -> bool
     is_white(sort(file[at]))
 }
 
-// The gap and the number after it that stand at `at`.
-fn part_at(file: &[u8], at: usize) -> Part
-    ensures { λ r. ⌜ r ≡ part-at (now (file .entry)) at ⌝ }
-{
-    if white_at(file, at) {
-        number_at(file, gap_end(file, at))
-    } else {
-        Part::Broken
-    }
-}
-
-// The header from `at` on, in the page's order: white, width, white, height, white, maximum, one white byte.
+// The header of a picture whose sign ends at `at`, step by step as the Netpbm page lists it; step 1, the sign, is `has_sign`.
 fn header_at(file: &[u8], at: usize) -> Header
     ensures { λ r. ⌜ r ≡ header-at (now (file .entry)) at ⌝ }
 {
-    let Part::Value(width, a) = part_at(file, at) else {
+    // 2. "Whitespace"
+    if !white_at(file, at) {
+        return Header::Broken;
+    }
+    let width_at = gap_end(file, at);
+    // 3. "A width"
+    let Part::Value(width, width_end) = number_at(file, width_at) else {
         return Header::Broken;
     };
-    let Part::Value(height, b) = part_at(file, a) else {
+    // 4. "Whitespace"
+    if !white_at(file, width_end) {
+        return Header::Broken;
+    }
+    let height_at = gap_end(file, width_end);
+    // 5. "A height"
+    let Part::Value(height, height_end) = number_at(file, height_at) else {
         return Header::Broken;
     };
-    let Part::Value(maximum, c) = part_at(file, b) else {
+    // 6. "Whitespace"
+    if !white_at(file, height_end) {
+        return Header::Broken;
+    }
+    let maximum_at = gap_end(file, height_end);
+    // 7. "The maximum gray value"
+    let Part::Value(maximum, maximum_end) = number_at(file, maximum_at) else {
         return Header::Broken;
     };
-    if white_at(file, c) {
-        Header::Read {
-            width,
-            height,
-            maximum,
-            start: c + 1,
-        }
-    } else {
-        Header::Broken
+    // 8. "A single whitespace character"
+    if !white_at(file, maximum_end) {
+        return Header::Broken;
+    }
+    Header::Read {
+        width,
+        height,
+        maximum,
+        start: maximum_end + 1,
     }
 }
