@@ -4,3 +4,4 @@ pub mod Pages
 pub mod Burst
 pub mod RoundTrip
 pub mod Alone
+pub mod Cut

@@ -21,7 +21,7 @@ use Rattle.pgm.specs.Page.{Page}
 use Rattle.pgm.proofs.Parts.{part-stands, white-here, drop-past, white-stands, part-read, white-stops, gap-stops}
 
 -- the sign and what follows it
-after-sign : (file : List ℕ) → starts-with-sign file ≡ true → file ≡ sign ++ drop 2 file
+pub after-sign : (file : List ℕ) → starts-with-sign file ≡ true → file ≡ sign ++ drop 2 file
 after-sign file e =
     let t = both-true (leb 2 (length file)) (eqb (getD file 0 0) 80 && eqb (getD file 1 0) 53) e in
     let b = both-true (eqb (getD file 0 0) 80) (eqb (getD file 1 0) 53) (t .1) in
@@ -32,7 +32,7 @@ after-sign file e =
     go (x ∷ []) h a b = absurd (omega arith)
     go (x ∷ y ∷ s) h a b = rw (a, b)
 
-sign-first : (s : List ℕ) → starts-with-sign (sign ++ s) ≡ true
+pub sign-first : (s : List ℕ) → starts-with-sign (sign ++ s) ≡ true
 sign-first s = simp (le-leb 2 (length (sign ++ s)) (omega arith))
 
 -- how many bytes stand from a position on

@@ -96,7 +96,7 @@ module _ (width height maximum start : ℕ) where
         start-read = cc (l .1);
       }
 
-part-after : (file : List ℕ) (at number after : ℕ) → part-at file at ≡ Value number after → at ≤ after
+pub part-after : (file : List ℕ) (at number after : ℕ) → part-at file at ≡ Value number after → at ≤ after
 part-after file at number after e = let p = part-found file at number after e in omega (arith, p .place, p .end)
 
 -- the raster starts after the header does

@@ -14,15 +14,15 @@ use Rattle.pgm_header.proofs.header_at.Tie as tie
 
 width-part : (c : tie.After-width) → part-at (now (c .before .before .before .before .before .before .before .args .file)) (c .before .before .before .before .before .before .before .args .at) ≡ Value (c .width .given .0 .0) (c .width .given .0 .1 .0)
 width-part c =
-  part-taken _ _ _ _ _ (sym (c .before .before .before .before .before .white-at .ensures) ∙ not-false _ (c .before .before .before .before .if1 .left)) (c .before .before .before .gap-end .ensures) (sym (c .before .before .number-at .ensures) ∙ c .width .given .1)
+    part-taken _ _ _ _ _ (sym (c .before .before .before .before .before .white-at .ensures) ∙ not-false _ (c .before .before .before .before .if1 .left)) (c .before .before .before .gap-end .ensures) (sym (c .before .before .number-at .ensures) ∙ c .width .given .1)
 
 height-part : (c : tie.After-height) → part-at (now (c .before .before .before .before .before .before .before .before .before .before .before .before .before .before .args .file)) (c .before .before .before .before .before .before .before .width .given .0 .1 .0) ≡ Value (c .height .given .0 .0) (c .height .given .0 .1 .0)
 height-part c =
-  part-taken _ _ _ _ _ (sym (c .before .before .before .before .before .white-at2 .ensures) ∙ not-false _ (c .before .before .before .before .if2 .left)) (c .before .before .before .gap-end2 .ensures) (sym (c .before .before .number-at2 .ensures) ∙ c .height .given .1)
+    part-taken _ _ _ _ _ (sym (c .before .before .before .before .before .white-at2 .ensures) ∙ not-false _ (c .before .before .before .before .if2 .left)) (c .before .before .before .gap-end2 .ensures) (sym (c .before .before .number-at2 .ensures) ∙ c .height .given .1)
 
 maximum-part : (c : tie.After-maximum) → part-at (now (c .before .before .before .before .before .before .before .before .before .before .before .before .before .before .before .before .before .before .before .before .before .args .file)) (c .before .before .before .before .before .before .before .height .given .0 .1 .0) ≡ Value (c .maximum .given .0 .0) (c .maximum .given .0 .1 .0)
 maximum-part c =
-  part-taken _ _ _ _ _ (sym (c .before .before .before .before .before .white-at3 .ensures) ∙ not-false _ (c .before .before .before .before .if3 .left)) (c .before .before .before .gap-end3 .ensures) (sym (c .before .before .number-at3 .ensures) ∙ c .maximum .given .1)
+    part-taken _ _ _ _ _ (sym (c .before .before .before .before .before .white-at3 .ensures) ∙ not-false _ (c .before .before .before .before .if3 .left)) (c .before .before .before .gap-end3 .ensures) (sym (c .before .before .number-at3 .ensures) ∙ c .maximum .given .1)
 
 white-at-requires : tie.Need-white-at-requires
 white-at-requires c κs = search needs
