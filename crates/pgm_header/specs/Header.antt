@@ -1,4 +1,5 @@
--- The header of a file, read from a position on: the sign, then three times a gap and a number, then one white byte.
+-- The header of a picture, read from a position on in the order of the Netpbm page, whose list gives the steps their numbers: 1. the sign,
+-- 2. white, 3. the width, 4. white, 5. the height, 6. white, 7. the maximum, 8. one white byte, and then 9. the raster.
 use Prim.Native.Nat.{ℕ, suc, _+_, _*_, _-_}
 use mathlib.Core.Bool.{Bool, true, false, not, cond, _&&_}
 use mathlib.Core.List.{List, [], _∷_}
@@ -10,14 +11,14 @@ use Rattle.pgm_header.specs.declared.Part.the-variants.{Value, Broken}
 use Rattle.pgm_header.specs.declared.Header.{Header}
 use Rattle.pgm_header.specs.declared.Header.the-variants.{Read, Broken as BrokenHeader}
 
--- "The file starts with the two bytes "P5"."
+-- 1. "The file starts with the two bytes "P5"."
 abbrev pub sign : List ℕ
 sign = 80 ∷ 53 ∷ []
 
 abbrev pub starts-with-sign : List ℕ → Bool
 starts-with-sign file = leb (length sign) (length file) && (eqb (getD file 0 0) (getD sign 0 0) && eqb (getD file 1 0) (getD sign 1 0))
 
--- "A gap starts with a white byte and goes on over white bytes and comments; a comment runs from # through the next 10 or 13."
+-- 2., 4., 6. "A gap starts with a white byte and goes on over white bytes and comments; a comment runs from # through the next 10 or 13."
 -- How many bytes of s belong to a gap that is under way; inside says whether s starts inside a comment
 unfoldable pub gap-length : Bool → List ℕ → ℕ
 gap-length inside [] = 0
@@ -46,7 +47,7 @@ finished-number value count at = cond (eqb count 0) Broken (Value value at)
 abbrev pub most-digits : ℕ
 most-digits = 7
 
--- "A number has 1 to 7 digits, leading zeros allowed." Its value, and the position after it
+-- 3., 5., 7. "A number has 1 to 7 digits, leading zeros allowed." Its value, and the position after it
 unfoldable pub number-at : List ℕ → ℕ → Part
 number-at file at =
     cond
@@ -54,8 +55,7 @@ number-at file at =
     (finished-number (decimal-value 0 (drop at file)) (digit-count (drop at file)) (at + digit-count (drop at file)))
     Broken
 
--- The steps after the sign hand a position on: where a gap ends, what a number is and where it ends, where one white byte ends. A header
--- in which a step does not find its part is broken
+-- A step after the sign hands on where its part ends, and what a number is; where it does not find its part, the header is broken
 abbrev pub gap-then : List ℕ → ℕ → (ℕ → Header) → Header
 gap-then file at next = cond (white-at file at) (next (at + gap-length false (drop at file))) BrokenHeader
 

@@ -1,5 +1,7 @@
-// The header of a PGM file, read from a position on: the sign, then three numbers, each after a gap, then one white byte. The magic is a
-// constant that the reader compares and the writer writes. What the numbers may be is judged by the crates above.
+// The header of a PGM picture, read from a position on in the order of the Netpbm page. The parts of that page's list have numbers here,
+// in code, definitions and documents: 1. the sign, 2. white, 3. the width, 4. white, 5. the height, 6. white, 7. the maximum, 8. one white
+// byte, 9. the raster. The magic is a constant that the reader compares and the writer writes. What the numbers of the header may be is
+// judged by the crates above.
 ghost use mathlib.Core.Path.{_≡_};
 ghost use mathlib.Core.Bool.{false};
 ghost use Prim.Native.Nat.{_+_};
@@ -75,7 +77,7 @@ pub enum Header {
     Broken,
 }
 
-// Whether the file starts with the magic.
+// 1. "A "magic number" for identifying the file type": whether the file starts with it.
 pub fn has_sign(file: &[u8]) -> bool
     ensures answer { λ r. ⌜ r ≡ starts-with-sign (now (file .entry)) ⌝ }
 {
@@ -94,7 +96,7 @@ fn ends_comment(b: u8) -> bool
     b == 10 || b == 13
 }
 
-// The position where digits start: past the white bytes and the comments from `from` on.
+// 2., 4., 6. "Whitespace": the position where digits start, past the white bytes and the comments from `from` on.
 fn gap_end(file: &[u8], from: usize) -> usize
     ensures { λ r. ⌜ r ≡ from + gap-length false (drop from (now (file .entry))) ⌝ }
 {
@@ -138,7 +140,7 @@ fn finished(value: u32, count: usize, at: usize) -> Part
     }
 }
 
-// The number that stands at `from`.
+// 3., 5., 7. "formatted as ASCII characters in decimal": the number that stands at `from`.
 fn number_at(file: &[u8], from: usize) -> Part
     ensures { λ r. ⌜ r ≡ number-at (now (file .entry)) from ⌝ }
 {
@@ -160,6 +162,7 @@ fn number_at(file: &[u8], from: usize) -> Part
     finished(value, count, at)
 }
 
+// Whether a white byte stands at `at`: a gap starts with one, and 8. is one.
 fn white_at(file: &[u8], at: usize) -> bool
     ensures { λ r. ⌜ r ≡ white-at (now (file .entry)) at ⌝ }
 {
@@ -169,7 +172,7 @@ fn white_at(file: &[u8], at: usize) -> bool
     is_white(sort(file[at]))
 }
 
-// The header of a picture whose sign ends at `at`, step by step as the Netpbm page lists it; step 1, the sign, is `has_sign`.
+// The header of a picture whose sign ends at `at`: steps 2 to 8 of the Netpbm page, one by one.
 fn header_at(file: &[u8], at: usize) -> Header
     ensures { λ r. ⌜ r ≡ header-at (now (file .entry)) at ⌝ }
 {

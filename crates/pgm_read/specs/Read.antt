@@ -18,7 +18,7 @@ use Rattle.pgm_read.specs.declared.Located.{Located}
 use Rattle.pgm_read.specs.declared.Located.the-variants.{Picture as Found-at, Refused as Not-found}
 use Rattle.pgm_read.specs.declared.Span.{Span}
 
--- a whole header, judged: the maximum, the sides, the number of raster bytes ("a raster cut short stays 11"), the samples
+-- a whole header, judged, and 9., the raster: the maximum, the sides, the number of raster bytes ("a raster cut short stays 11"), the samples
 unfoldable pub judged : List ℕ → Header → Found
 judged file Broken = Refused BadHeader
 judged file (Read width height maximum start) =
@@ -28,7 +28,7 @@ judged file (Read width height maximum start) =
     (must Refused (all-at-most maximum (take (width * height) (drop start file))) Sample
     (Picture width height maximum start))))
 
--- the picture that starts at a position
+-- the picture that starts at a position: 1. the sign, 2. to 8. the header after it, 9. the raster
 unfoldable pub picture-at : List ℕ → ℕ → Found
 picture-at file at = must Refused (starts-with-sign (drop at file)) Sign (judged file (header-at file (at + length sign)))
 

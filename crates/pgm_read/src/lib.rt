@@ -85,14 +85,17 @@ fn judge(file: &[u8], found: Header) -> Found
     }
 }
 
-// The picture that starts at a position, or the first cause that applies, in the order 8, 9, 10, 1, 11, 12.
+// The picture that starts at a position, read in the order of the Netpbm page, or the first cause that applies, in the order 8, 9, 10, 1,
+// 11, 12.
 fn picture_at(file: &[u8], at: usize) -> Found
     requires { ⌜ at ≤ length (now file) ⌝ }
     ensures { λ r. ⌜ r ≡ picture-at (now (file .entry)) at ⌝ }
 {
+    // 1. the sign
     if !pgm_header::has_sign(&file[at..]) {
         return Found::Refused(Cause::Sign);
     }
+    // 2. to 8. white, width, white, height, white, maximum, one white byte; and then 9. the raster
     judge(file, reader::header_of(file, at + pgm_header::MAGIC_LENGTH))
 }
 

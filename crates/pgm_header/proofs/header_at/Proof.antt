@@ -1,10 +1,8 @@
 -- `pgm_header::header_at` meets its contract: each step passes, or breaks the header as the definition does. Assumes nothing.
 use mathlib.Core.Path.{_≡_, _∙_, sym}
-use mathlib.Core.Bool.{true, false}
 use denote.Ref.{now}
 use borrow.Author.Tests.{not-true, not-false}
 use native.Mathlib.Omega.{arith}
-use Rattle.pgm_header.specs.Header.{white-at}
 use Rattle.pgm_header.specs.declared.Part.the-variants.{Value}
 use Rattle.pgm_header.proofs.Parts.{part-at}
 use Rattle.pgm_header.proofs.Scan.{white-below, part-taken, part-without-number, part-without-gap, no-width, no-height, no-maximum, no-last-white, whole-header}
