@@ -45,7 +45,7 @@ No-more file =
     → length file ≤ start + width * height
 
 -- then the raster is all that follows the header
-module _ (file : List ℕ) (w h m s : ℕ) (few : length file ≤ s + w * h) where
+module _ (file : List ℕ) (w h s : ℕ) (few : length file ≤ s + w * h) where
   raster-all : {A : Type 0} (sample : List ℕ → A) (short : A) → cond (leb (w * h) (length file - s)) (sample (take (w * h) (drop s file))) short ≡ cond (eqb (length file - s) (w * h)) (sample (drop s file)) short
   raster-all sample short = go (eqb (length file - s) (w * h)) refl
     where
@@ -66,7 +66,7 @@ judged-same file (Read w h m s) few = go (maximum-fits m) (sides-fit w h) refl r
     go false u e f = simp e
     go true false e f = simp (e, f)
     go true true e f =
-        simp (e, f) (raster-all file w h m s (few w h m s refl e f) (λ (l : List ℕ). must Refused (all-at-most m l) Sample (Picture w h m s)) (Refused RasterLength))
+        simp (e, f) (raster-all file w h s (few w h m s refl e f) (λ (l : List ℕ). must Refused (all-at-most m l) Sample (Picture w h m s)) (Refused RasterLength))
 
 -- a file with nothing after its first picture answers as that picture
 first-only : (file : List ℕ) → ((w h m s : ℕ) → picture-at file 0 ≡ Picture w h m s → length file ≤ s + w * h) → read-answer file 1 ≡ picture-at file 0

@@ -72,58 +72,60 @@ page-accepted {file} {number} {width} {height} {maximum} {start} {raster} n =
     ∙ ap (Picture width height maximum) (sym (n .start-right)) in
     (answer, rw (answer, n .start-right) (r .1))
 
--- the page of a place among pages that start at a position
-record NumberedFrom (at : ℕ) (bytes : List ℕ) (place width height maximum start : ℕ) : Type 0 where
-  raster : List ℕ
-  before : List ℕ
-  page-there : List ℕ
-  after : List ℕ
-  later : ℕ
-  own : ℕ
-  layout : bytes ≡ before ++ (page-there ++ after)
-  before-right : Pages place before
-  page-right : Page page-there width height maximum own raster
-  after-right : Pages later after
-  start-right : start ≡ at + length before + own
-
 no-picture : (w h m s : ℕ) → Refused PictureNumber ≡ Picture w h m s → ⊥
 no-picture w h m s e = let z : _≡_ {A = ℕ} 0 1 = cc in omega arith
 
-pick-page : {at : ℕ} {bytes : List ℕ} {shown : List Found} → Shown at bytes shown → (place width height maximum start : ℕ) → getD shown place (Refused PictureNumber) ≡ Picture width height maximum start → NumberedFrom at bytes place width height maximum start
+-- the page of a place among pages that start at a position
+pick-page : {at : ℕ} {bytes : List ℕ} {shown : List Found} → Shown at bytes shown → (place width height maximum start : ℕ) → getD shown place (Refused PictureNumber) ≡ Picture width height maximum start
+    → (raster : List ℕ) × (there : ℕ) × Numbered bytes (place + 1) width height maximum there raster × (start ≡ at + there)
 pick-page nothing place w h m s g = absurd (no-picture w h m s g)
 pick-page (page {at} {width = w′} {height = h′} {maximum = m′} {own = own} {bytes = b} {rest = r} {raster = raster} p e q) zero w h m s g =
     let ew : w′ ≡ w = cc g in
     let eh : h′ ≡ h = cc g in
     let em : m′ ≡ m = cc g in
-    let es : at + own ≡ s = cc g in
-    record {
-      raster = raster;
-      before = [];
-      page-there = b;
-      after = r;
-      later = _;
-      own = own;
-      layout = refl;
-      before-right = none;
-      page-right = rw (← ew, ← eh, ← em) p;
-      after-right = shown-pages q;
-      start-right = omega arith;
-    }
+    let es : at + own ≡ s = cc g in (
+      raster,
+      own,
+      record {
+        before = [];
+        page = b;
+        after = r;
+        earlier = 0;
+        later = _;
+        own = own;
+        layout = refl;
+        before-right = none;
+        page-right = rw (← ew, ← eh, ← em) p;
+        after-right = shown-pages q;
+        number-right = refl;
+        start-right = sym (zero-add own);
+      },
+      sym es,
+    )
 pick-page (page {at} {end} {bytes = b} {rest = r} p e q) (suc place) w h m s g =
-    let n = pick-page q place w h m s g in
-    record {
-      raster = n .raster;
-      before = b ++ n .before;
-      page-there = n .page-there;
-      after = n .after;
-      later = n .later;
-      own = n .own;
-      layout = ap (λ (l : List ℕ). b ++ l) (n .layout) ∙ sym (append-assoc b (n .before) (n .page-there ++ n .after));
-      before-right = then p (n .before-right);
-      page-right = n .page-right;
-      after-right = n .after-right;
-      start-right = omega (arith, n .start-right, e, length-append b (n .before));
-    }
+    let f = pick-page q place w h m s g in
+    let n = f .2 in (
+      f .0,
+      length b + f .1,
+      record {
+        before = b ++ n .before;
+        page = n .page;
+        after = n .after;
+        earlier = suc (n .earlier);
+        later = n .later;
+        own = n .own;
+        layout =
+            ap (λ (l : List ℕ). b ++ l) (n .layout)
+            ∙ sym (append-assoc b (n .before ++ n .page) (n .after))
+            ∙ ap (λ (l : List ℕ). l ++ n .after) (sym (append-assoc b (n .before) (n .page)));
+        before-right = then p (n .before-right);
+        page-right = n .page-right;
+        after-right = n .after-right;
+        number-right = omega (arith, n .number-right);
+        start-right = omega (arith, n .start-right, length-append b (n .before));
+      },
+      omega (arith, f .3, e),
+    )
 
 -- "the first faulty picture gives the number", whichever picture is named
 pub faulty-refused : {file : List ℕ} {cause : Cause} → FirstFaulty file cause → (number : ℕ) → read-answer file number ≡ Refused cause
@@ -152,14 +154,14 @@ faulty-first f =
 
 module _ (file : List ℕ) (number : ℕ) where
   -- either the file has nothing but pages, and the number decides, or the answer is the cause of a faulty picture
-  by-number : Found
-  by-number = getD (pictures file) (number - 1) (Refused PictureNumber)
+  named-picture : Found
+  named-picture = getD (pictures file) (number - 1) (Refused PictureNumber)
 
   Decided : Type 0
-  Decided = (Shown 0 file (pictures file) × (read-answer file number ≡ must Refused (leb 1 number && leb number (length (pictures file))) PictureNumber by-number)) ⊎ ((cause : Cause) × (number-of cause < 18) × (read-answer file number ≡ Refused cause) × FirstFaulty file cause)
+  Decided = (Shown 0 file (pictures file) × (read-answer file number ≡ must Refused (leb 1 number && leb number (length (pictures file))) PictureNumber named-picture)) ⊎ ((cause : Cause) × (number-of cause < 18) × (read-answer file number ≡ Refused cause) × FirstFaulty file cause)
 
   decided : Decided
-  unfolding read-answer Decided by-number
+  unfolding read-answer Decided named-picture
   decided = go (found-shown (suc (length file)) file 0 (omega arith) (omega arith))
     where
       go : Shown 0 file (pictures file) ⊎ Faulty file 0 → Decided
@@ -170,12 +172,12 @@ module _ (file : List ℕ) (number : ℕ) where
 
   module _ (width height maximum start : ℕ) (e : read-answer file number ≡ Picture width height maximum start) where
     number-found : Shown 0 file (pictures file) × (1 ≤ number) × (getD (pictures file) (number - 1) (Refused PictureNumber) ≡ Picture width height maximum start)
-    unfolding Decided by-number
+    unfolding Decided named-picture
     number-found = go decided
       where
         go : Decided → Shown 0 file (pictures file) × (1 ≤ number) × (getD (pictures file) (number - 1) (Refused PictureNumber) ≡ Picture width height maximum start)
         go (inl (s, a)) =
-            let m = must-passed Refused (leb 1 number && leb number (length (pictures file))) PictureNumber by-number (Picture width height maximum start) (no-picture width height maximum start) (sym a ∙ e) in
+            let m = must-passed Refused (leb 1 number && leb number (length (pictures file))) PictureNumber named-picture (Picture width height maximum start) (no-picture width height maximum start) (sym a ∙ e) in
             (s, leb-true 1 number (both-true (leb 1 number) (leb number (length (pictures file))) (m .0) .0), m .1)
         go (inr (cause, l, a, first)) = let f : Refused cause ≡ Picture width height maximum start = sym a ∙ e in let z : _≡_ {A = ℕ} 0 1 = cc in absurd (omega arith)
 
@@ -184,20 +186,9 @@ module _ (file : List ℕ) (number : ℕ) where
     accepted-page =
         let f = number-found in
         let p = pick-page (f .0) (number - 1) width height maximum start (f .2) in
-        let n : Numbered file number width height maximum start (p .raster) = record {
-          before = p .before;
-          page = p .page-there;
-          after = p .after;
-          earlier = number - 1;
-          later = p .later;
-          own = p .own;
-          layout = p .layout ∙ sym (append-assoc (p .before) (p .page-there) (p .after));
-          before-right = p .before-right;
-          page-right = p .page-right;
-          after-right = p .after-right;
-          number-right = omega (arith, f .1);
-          start-right = omega (arith, p .start-right);
-        } in
+        let named : number - 1 + 1 ≡ number = omega (arith, f .1) in
+        let place : p .1 ≡ start = omega (arith, p .3) in
+        let n : Numbered file number width height maximum start (p .0) = rw (named, place) at (p .2) in
         rw (page-accepted n .1) n
 
 shown-picture : {at : ℕ} {bytes : List ℕ} {shown : List Found} → Shown at bytes shown → (place : ℕ) → place < length shown
@@ -230,10 +221,10 @@ shown-no-cause s place cause l e =
 
 -- and only of such a file, for such a number, is that the cause
 pub not-named : (file : List ℕ) (number : ℕ) → read-answer file number ≡ Refused PictureNumber → (count : ℕ) × Pages count file × (1 ≤ count) × ((number ≡ 0) ⊎ (count < number))
-unfolding Decided by-number
+unfolding Decided named-picture
 not-named file number e = go (decided file number)
   where
-    outside : (t u : Bool) → leb 1 number ≡ t → leb number (length (pictures file)) ≡ u → Shown 0 file (pictures file) → must Refused (t && u) PictureNumber (by-number file number) ≡ Refused PictureNumber → (number ≡ 0) ⊎ (length (pictures file) < number)
+    outside : (t u : Bool) → leb 1 number ≡ t → leb number (length (pictures file)) ≡ u → Shown 0 file (pictures file) → must Refused (t && u) PictureNumber (named-picture file number) ≡ Refused PictureNumber → (number ≡ 0) ⊎ (length (pictures file) < number)
     outside false u f g s a = inl (omega (arith, leb-false 1 number f))
     outside true false f g s a = inr (leb-false number (length (pictures file)) g)
     outside true true f g s a =
@@ -248,10 +239,10 @@ not-named file number e = go (decided file number)
 
 -- any other cause is that of the first faulty picture
 pub refused-faulty : (file : List ℕ) (number : ℕ) (cause : Cause) → (cause ≡ PictureNumber → ⊥) → read-answer file number ≡ Refused cause → FirstFaulty file cause
-unfolding Decided by-number
+unfolding Decided named-picture
 refused-faulty file number cause other e = go (decided file number)
   where
-    by-must : (t u : Bool) → leb 1 number ≡ t → leb number (length (pictures file)) ≡ u → Shown 0 file (pictures file) → must Refused (t && u) PictureNumber (by-number file number) ≡ Refused cause → ⊥
+    by-must : (t u : Bool) → leb 1 number ≡ t → leb number (length (pictures file)) ≡ u → Shown 0 file (pictures file) → must Refused (t && u) PictureNumber (named-picture file number) ≡ Refused cause → ⊥
     by-must false u f g s a = let same : cause ≡ PictureNumber = cc in other same
     by-must true false f g s a = let same : cause ≡ PictureNumber = cc in other same
     by-must true true f g s a =

@@ -196,7 +196,7 @@ module _ (file : List ℕ) (at : ℕ) where
 abbrev PagesOrFault : List ℕ → ℕ → List Found → Type 0
 PagesOrFault file at pictures = Shown at (drop at file) pictures ⊎ Faulty file at
 
--- either it is, or there is nothing but pages from there on
+-- from a position on there is nothing but pages, or some pages and then a faulty picture
 pub found-shown : (fuel : ℕ) (file : List ℕ) (at : ℕ) → length file < fuel + at → at ≤ length file → PagesOrFault file at (pictures-from fuel file at)
 unfolding pictures-from
 found-shown zero file at enough within = absurd (omega arith)

@@ -76,10 +76,9 @@ unfolding buffer-after
 written-file picture width height maximum buffer total e =
     rw e (take-at (pgm-file picture width height maximum) (drop total buffer) total (sym (writable-is picture width height maximum (length buffer) total e .total-right)))
 
-module _ (picture : List ℕ) (width height maximum : ℕ) (buffer : List ℕ) (total : ℕ) (e : write-answer picture width height maximum (length buffer) ≡ Bytes total) where
-  written-page : Page (take total (buffer-after picture width height maximum buffer)) width height maximum (total - width * height) picture
-  written-page =
-      rw (written-file picture width height maximum buffer total e) (file-page (writable-is picture width height maximum (length buffer) total e))
+written-page : (picture : List ℕ) (width height maximum : ℕ) (buffer : List ℕ) (total : ℕ) → write-answer picture width height maximum (length buffer) ≡ Bytes total → Page (take total (buffer-after picture width height maximum buffer)) width height maximum (total - width * height) picture
+written-page picture width height maximum buffer total e =
+    rw (written-file picture width height maximum buffer total e) (file-page (writable-is picture width height maximum (length buffer) total e))
 
 -- what was written in turn is a sequence of pages
 pub written-pages : {count : ℕ} {bytes : List ℕ} → WrittenInTurn count bytes → Pages count bytes
