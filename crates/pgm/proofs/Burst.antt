@@ -21,7 +21,6 @@ use Rattle.causes.proofs.Refusing.{must-passed}
 use Rattle.pgm_read.specs.Read.{picture-at, pictures, pictures-from, read-answer, raster-of}
 use Rattle.pgm_read.specs.declared.Found.{Found}
 use Rattle.pgm_read.specs.declared.Found.the-variants.{Picture, Refused}
-use Rattle.pgm.specs.Page.{Page}
 use Rattle.pgm.specs.Burst.{Pages, Numbered, FirstFaulty}
 use Rattle.pgm.specs.Burst.Pages.{none, then}
 use Rattle.pgm.proofs.Shape.{page-read}
