@@ -653,6 +653,15 @@ class Bursts(unittest.TestCase):
                 self.assertEqual(plainly_read(file, len(found) + 1), 18)
         self.assertEqual(causes, {0, 1, 8, 9, 10, 11, 12, 18})
 
+    def test_a_file_cut_within_its_first_header_or_raster(self):
+        for first, picture in enumerate(BURST):
+            file = b"".join(BURST_FILES[first:])
+            header = len(BURST_FILES[first]) - len(picture.raster)  # its last white byte included
+            for left in range(header + len(picture.raster)):
+                cause = 8 if left < 2 else 9 if left < header else 11
+                for number in 0, 1, 2, 2 ** 64 - 1:
+                    self.assertEqual(answer(teldruf.read, file[:left], number), cause, (file[:left], number))
+
     def test_what_is_written_end_to_end_is_read_back(self):
         random = Random(3)
         for count in [*range(1, 18), 31, 32, 33, 1000]:
