@@ -9,12 +9,10 @@ use crate::definition::Picture;
 use crate::files::{file_of, good_writing, read_fault, round_trip, Writing};
 use crate::interface;
 use crate::lent::Lent;
-use crate::pgm::{self, Head};
+use crate::pgm::{self, Head, Pictures};
 use crate::pictures::by_place;
 use crate::random::Random;
 use crate::report::{answer_fault, shown, Report};
-
-type Pictures = Result<Vec<Head>, u32>;
 
 /// 0, every number up to two above the count, and such as would be one of them in 8, 16, 32 or 63
 /// bits, or counted from the end.
@@ -54,7 +52,7 @@ fn check(report: &mut Report, random: &mut Random, file: &[u8], pictures: &Pictu
 }
 
 /// What is due here is known without the definition, which must find the same.
-fn check_definition(report: &mut Report, file: &[u8], due: &Pictures) {
+pub fn check_definition(report: &mut Report, file: &[u8], due: &Pictures) {
     let found = pgm::pictures(file);
     let fault = (found != *due).then(|| format!("{found:?}, should be {due:?}"));
     report.check(fault, || format!("definition here: {}", shown(file)));

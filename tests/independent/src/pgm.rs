@@ -89,8 +89,11 @@ fn first(bytes: &[u8]) -> Result<(Head, &[u8]), u32> {
 }
 
 /// The pictures of a whole file, in which rasters have their places, or the cause of the first that
-/// is faulty. An empty file has a faulty one.
-pub fn pictures(file: &[u8]) -> Result<Vec<Head>, u32> {
+/// is faulty.
+pub type Pictures = Result<Vec<Head>, u32>;
+
+/// An empty file has a faulty picture.
+pub fn pictures(file: &[u8]) -> Pictures {
     let mut pictures = Vec::new();
     let mut rest = file;
     while pictures.is_empty() || !rest.is_empty() {
@@ -106,7 +109,7 @@ pub fn pictures(file: &[u8]) -> Result<Vec<Head>, u32> {
 }
 
 /// The picture of this number, from 1 up. After all other causes, 18 if there is none.
-pub fn named(pictures: &Result<Vec<Head>, u32>, number: u64) -> Result<Head, u32> {
+pub fn named(pictures: &Pictures, number: u64) -> Result<Head, u32> {
     let pictures = pictures.as_ref().map_err(|cause| *cause)?;
     let mut numbered = (1..).zip(pictures);
     let found = numbered.find(|(k, _)| *k == number);
