@@ -11,14 +11,17 @@ mod bursts;
 mod calls;
 mod causes;
 mod chains;
+mod cuts;
 mod damage;
 mod dark;
 mod definition;
 mod every;
 mod fast;
+mod fence;
 mod files;
 mod frame;
 mod gaps;
+mod headers;
 mod interface;
 mod large;
 mod lent;
@@ -27,6 +30,7 @@ mod long;
 mod mixed;
 mod neighbours;
 mod nest;
+mod page;
 mod parts;
 mod pgm;
 mod pictures;
@@ -50,7 +54,7 @@ const FEWEST_CASES: usize = 1000;
 
 type Suite = fn(&mut Report, &Options);
 
-const SUITES: [(&str, Suite); 15] = [
+const SUITES: [(&str, Suite); 16] = [
     ("table", |r, o| table::run(r, o.seed)),
     ("neighbours", |r, o| neighbours::run(r, o.seed)),
     ("frame", |r, o| frame::run(r, o.seed, o.cases / 10)),
@@ -63,6 +67,7 @@ const SUITES: [(&str, Suite); 15] = [
     ("chains", |r, o| chains::run(r, o.seed, o.cases / 4)),
     ("files", |r, o| files::run(r, o.seed, o.cases * 2)),
     ("bursts", |r, o| bursts::run(r, o.seed, o.cases / 4)),
+    ("cuts", |r, o| cuts::run(r, o.seed, o.cases / 10)),
     ("large", |r, o| large::run(r, o.seed)),
     ("long", |r, o| long::run(r, o.seed)),
     (PROGRAM, |r, o| {
