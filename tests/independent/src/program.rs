@@ -372,6 +372,23 @@ impl Place {
         }
     }
 
+    /// A burst of two pictures, whose headers have 14 bytes and 9, cut everywhere; it is refused before
+    /// its steps are. What is left of it is good where it ends with the first picture.
+    fn cut_bursts(&self, report: &mut Report) {
+        let (_, steps, listing) = EXAMPLES[3];
+        let burst = b"P5 #7\r3 1\n255\n\x0a\x28\x0aP5 1 1 9 \x09";
+        for cut in 0..=burst.len() {
+            let (due, without_steps) = match cut {
+                0 | 1 | 18 => ("refused\t8\n", "refused\t8\n"),
+                2..=13 | 19..=25 => ("refused\t9\n", "refused\t9\n"),
+                14..=16 | 26 => ("refused\t11\n", "refused\t11\n"),
+                _ => (listing, "refused\t13\n"),
+            };
+            self.check_known(report, &burst[..cut], steps, due);
+            self.check_known(report, &burst[..cut], b"", without_steps);
+        }
+    }
+
     /// The examples, and each odd file beside a good one and beside a bad one.
     fn systematic(&self, report: &mut Report) {
         for (basin, steps, due) in EXAMPLES {
@@ -396,6 +413,7 @@ pub fn run(report: &mut Report, seed: u64, cases: usize, program: &str) {
     place.systematic(report);
     place.good_bursts(report);
     place.faulty_bursts(report);
+    place.cut_bursts(report);
     for case in 0..cases {
         let mut random = Random::for_case(seed, 6, case as u64);
         let basin = basin_entry(&mut random, case, case % 8);
