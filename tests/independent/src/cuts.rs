@@ -237,9 +237,12 @@ fn short_gaps(cuts: &mut Cuts) {
     }
 }
 
-/// Numbers out of range: the whole header is read before any is judged.
+/// Numbers of 8 digits, and numbers out of range: the whole header is read before any is judged.
 fn wrong_values(cuts: &mut Cuts) {
     let wrong = [
+        (["00000001", "1", "1"], 9),
+        (["1", "00000001", "1"], 9),
+        (["1", "1", "00000001"], 9),
         (["0", "0", "0"], 10),
         (["1", "1", "0"], 10),
         (["1", "1", "256"], 10),

@@ -1,6 +1,6 @@
 // The header's eight steps in the order of the Netpbm page: sign, white, width, white, height, white,
-// maximum, one white byte. Each step is left out, done twice, exchanged with the next one, and
-// followed by a comment. What is due is worked out by hand.
+// maximum, one white byte. Each step is left out, done twice, exchanged with the next one, followed by
+// a comment, parted by one, and replaced by a foreign byte. What is due is worked out by hand.
 
 use crate::bursts::check_definition;
 use crate::cuts::{Cuts, EVERY_WAY};
@@ -120,6 +120,9 @@ fn check(cuts: &mut Cuts, sides: [u32; 2], parts: &[&[u8]], answer: Answer) {
     }
 }
 
+/// Bytes that no step has. Two of them are white for the page's last paragraph, not for the scope.
+const FOREIGN: [u8; 6] = [0, 11, 12, b'-', 0x85, 0xa0];
+
 pub fn run(cuts: &mut Cuts) {
     for page in PAGES {
         let mut check = |parts: &[&[u8]], answer| check(cuts, page.sides, parts, answer);
@@ -133,6 +136,15 @@ pub fn run(cuts: &mut Cuts) {
             check(&[before, &[step, step], after].concat(), *twice);
             check(&[before, &later].concat(), *exchanged);
             check(&[before, &[step, b"#\n"], after].concat(), *commented);
+            let unless_sign = |due| if at == 0 { Err(8) } else { due };
+            let amid: [&[u8]; 3] = [&step[..1], b"#\n", &step[1..]];
+            check(&[before, &amid, after].concat(), unless_sign(*commented));
+            for foreign in FOREIGN {
+                check(
+                    &[before, &[&[foreign]], after].concat(),
+                    unless_sign(Err(9)),
+                );
+            }
         }
     }
 }
