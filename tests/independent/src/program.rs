@@ -372,16 +372,16 @@ impl Place {
         }
     }
 
-    /// A burst of two pictures, whose headers have 14 bytes and 9, cut everywhere; it is refused before
-    /// its steps are. What is left of it is good where it ends with the first picture.
+    /// A burst of two pictures, whose headers have 18 bytes and 9, cut everywhere; it is refused before
+    /// its steps are. What is left is good where it ends with a picture.
     fn cut_bursts(&self, report: &mut Report) {
         let (_, steps, listing) = EXAMPLES[3];
-        let burst = b"P5 #7\r3 1\n255\n\x0a\x28\x0aP5 1 1 9 \x09";
+        let burst = b"P5 #7\r03 1\n#\n0255\r\x0a\x28\x0aP5 1 1 9 \x09";
         for cut in 0..=burst.len() {
             let (due, without_steps) = match cut {
-                0 | 1 | 18 => ("refused\t8\n", "refused\t8\n"),
-                2..=13 | 19..=25 => ("refused\t9\n", "refused\t9\n"),
-                14..=16 | 26 => ("refused\t11\n", "refused\t11\n"),
+                0 | 1 | 22 => ("refused\t8\n", "refused\t8\n"),
+                2..=17 | 23..=29 => ("refused\t9\n", "refused\t9\n"),
+                18..=20 | 30 => ("refused\t11\n", "refused\t11\n"),
                 _ => (listing, "refused\t13\n"),
             };
             self.check_known(report, &burst[..cut], steps, due);
