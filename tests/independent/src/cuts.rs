@@ -2,8 +2,8 @@
 // within its first header answers 8 if less than the sign is left, else 9. The header goes through
 // its last white byte; after it the raster is cut short, 11, or a further picture is cut.
 //
-// What is due follows from the lengths of the headers and rasters that a file was put together from,
-// whatever they hold. The definition must find the same.
+// What is due follows from the lengths of the headers and rasters that a file was put together
+// from, whatever they hold. The definition must find the same.
 
 use crate::bursts::check_definition;
 use crate::fence::Fence;
@@ -139,7 +139,8 @@ impl Cuts<'_> {
         }
     }
 
-    /// One picture, accepted whole and then cut in these places, with one number and one way for each.
+    /// One picture, accepted whole and then cut in these places, with one number and one way for
+    /// each.
     fn once(&mut self, piece: Piece, cuts: impl Iterator<Item = usize>) {
         let pieces = [piece];
         let bytes = joined(&pieces);
@@ -216,8 +217,8 @@ fn tiny(cuts: &mut Cuts, gaps: [&[u8]; 3], digits: [&str; 3], white: u8) {
     cuts.once(piece, 0..=all);
 }
 
-/// Every three short gaps, and every three very short ones with every choice of digits and of the last
-/// white byte.
+/// Every three short gaps, and every three very short ones with every choice of digits and of the
+/// last white byte.
 fn short_gaps(cuts: &mut Cuts) {
     let wide = gaps(&WHITE, &[b"\t", b"\n", b"\r", b" ", b"#\n", b"#\r"], 1);
     let deep = gaps(b" \n", &[b"\n", b"#\n", b"#1\r"], 2);
@@ -256,10 +257,10 @@ fn wrong_values(cuts: &mut Cuts) {
     let odd: [&[u8]; 3] = [b"\n#1 1 1\r", b"\t #\n", b"\r\n"];
     for (digits, cause) in wrong {
         for gaps in [[&b" "[..]; 3], odd] {
-            let piece = Piece::of(gaps, digits, b'\n', vec![0; 3]);
-            let bytes = joined(&[piece.clone()]);
+            let pieces = [Piece::of(gaps, digits, b'\n', vec![0; 3])];
+            let bytes = joined(&pieces);
             for cut in 0..=bytes.len() {
-                let due = match due_of_cut(&[piece.clone()], cut) {
+                let due = match due_of_cut(&pieces, cut) {
                     Err(early @ (8 | 9)) => Err(early),
                     _ => Err(cause),
                 };

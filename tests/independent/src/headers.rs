@@ -39,8 +39,8 @@ pub fn joined(pieces: &[Piece]) -> Vec<u8> {
     pieces.iter().flat_map(both).collect()
 }
 
-/// Width, height and maximum, the header, and the raster, which may look like white, numbers, comments
-/// or headers.
+/// Width, height and maximum, the header, and the raster, which may look like white, numbers,
+/// comments or headers.
 const HEADERS: [([u32; 3], &[u8], &[u8]); 34] = [
     ([1, 1, 1], b"P5 1 1 1 ", b"\0"),
     ([3, 2, 255], b"P5\n3 2\n255\n", b"\0\n#\r\xff "),

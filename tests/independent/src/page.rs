@@ -1,6 +1,7 @@
-// The header's eight steps in the order of the Netpbm page: sign, white, width, white, height, white,
-// maximum, one white byte. Each step is left out, done twice, exchanged with the next one, followed by
-// a comment, parted by one, and replaced by a foreign byte. What is due is worked out by hand.
+// The header's eight steps in the order of the Netpbm page: sign, white, width, white, height,
+// white, maximum, one white byte. Each step is left out, done twice, exchanged with the next one,
+// followed by a comment, parted by one, and replaced by a foreign byte. What is due is worked out
+// by hand.
 
 use crate::bursts::check_definition;
 use crate::cuts::{Cuts, EVERY_WAY};
@@ -14,16 +15,16 @@ struct Page {
     sides: [u32; 2],
     whole: Answer,
     /// The bytes of each step, and what is due where it is left out, is done twice, comes after the
-    /// next one (which for the last step is the first byte of the raster), and where a comment comes
-    /// after it.
+    /// next one (which for the last step is the first byte of the raster), and where a comment
+    /// comes after it.
     steps: [(&'static [u8], [Answer; 4]); 8],
     raster: &'static [u8],
 }
 
 const PAGES: [Page; 4] = [
     // A raster that no header goes on with. Where a step is missing, the last white byte starts the
-    // gap before the maximum, and no digit follows, 9. Digits done twice are 66 pixels, 11. A second
-    // last white byte or a comment is in the raster and above the maximum, 12.
+    // gap before the maximum, and no digit follows, 9. Digits done twice are 66 pixels, 11. A
+    // second last white byte or a comment is in the raster and above the maximum, 12.
     Page {
         sides: [2, 3],
         whole: Ok([9, 9]),
@@ -39,10 +40,10 @@ const PAGES: [Page; 4] = [
         ],
         raster: b"\x01\x02\x03\x04\x05\x06",
     },
-    // A raster that is a number and a white byte. Where a step is missing, these are the maximum and
-    // the last white byte, and no raster is left, 11; where the last white byte does not part it from
-    // the maximum, that is 991, 10. A second last white byte or a comment is raster, and what it moves
-    // is no picture, 8.
+    // A raster that is a number and a white byte. Where a step is missing, these are the maximum
+    // and the last white byte, and no raster is left, 11; where the last white byte does not part
+    // it from the maximum, that is 991, 10. A second last white byte or a comment is raster, and
+    // what it moves is no picture, 8.
     Page {
         sides: [1, 2],
         whole: Ok([99, 10]),
@@ -58,9 +59,9 @@ const PAGES: [Page; 4] = [
         ],
         raster: b"1\n",
     },
-    // A raster that starts with white. That is the last white byte where this one is left out or comes
-    // before the maximum, and the raster is a byte short, 11; where it is there twice, a byte is left
-    // over, 8; where both change places, nothing changes.
+    // A raster that starts with white. That is the last white byte where this one is left out or
+    // comes before the maximum, and the raster is a byte short, 11; where it is there twice, a byte
+    // is left over, 8; where both change places, nothing changes.
     Page {
         sides: [3, 1],
         whole: Ok([9, 9]),
@@ -76,8 +77,9 @@ const PAGES: [Page; 4] = [
         ],
         raster: b"\t\0\x01",
     },
-    // Gaps with comments, and a raster that looks like one. Where a step is missing, the file ends in
-    // a gap, 9. A second last white byte or a comment is raster, and a byte or two are left over, 8.
+    // Gaps with comments, and a raster that looks like one. Where a step is missing, the file ends
+    // in a gap, 9. A second last white byte or a comment is raster, and a byte or two are left
+    // over, 8.
     Page {
         sides: [2, 1],
         whole: Ok([50, 19]),

@@ -372,8 +372,8 @@ impl Place {
         }
     }
 
-    /// A burst of two pictures, whose headers have 18 bytes and 9, cut everywhere; it is refused before
-    /// its steps are. What is left is good where it ends with a picture.
+    /// A burst of two pictures, whose headers have 18 bytes and 9, cut everywhere; it is refused
+    /// before its steps are. What is left is good where it ends with a picture.
     fn cut_bursts(&self, report: &mut Report) {
         let (_, steps, listing) = EXAMPLES[3];
         let burst = b"P5 #7\r03 1\n#\n0255\r\x0a\x28\x0aP5 1 1 9 \x09";
