@@ -190,6 +190,11 @@ module _ (file : List ℕ) (number : ℕ) where
         let n : Numbered file number width height maximum start (p .0) = rw (named, place) at (p .2) in
         rw (page-accepted n .1) n
 
+    -- and the first picture is answered for it
+    pub first-answer : read-answer file 1 ≡ picture-at file 0
+    unfolding pictures-from
+    first-answer = shown-answer (number-found .0) 1 (omega arith) (some-pictures file)
+
 shown-picture : {at : ℕ} {bytes : List ℕ} {shown : List Found} → Shown at bytes shown → (place : ℕ) → place < length shown
     → (width height maximum start : ℕ) × (getD shown place (Refused PictureNumber) ≡ Picture width height maximum start)
 shown-picture nothing place l = absurd (omega arith)

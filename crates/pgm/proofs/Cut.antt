@@ -1,18 +1,17 @@
 -- A file that is cut. A header is decided by its own bytes (`header-own`), so a front that ends within the first header has none, and
 -- `cut-header` and `cut-accepted` give the number; after the header `cut-raster` does. Assumes nothing.
-use Prim.Native.Nat.{ℕ, suc, _+_, _*_, _-_, _≤_, _<_}
+use Prim.Native.Nat.{ℕ, _+_, _*_, _-_, _≤_, _<_}
 use mathlib.Core.Path.{_≡_, refl, sym, _∙_, ap}
 use mathlib.Core.Bool.{Bool, true, false, cond}
 use mathlib.Core.List.{List, [], _∷_, _++_, append-assoc}
 use mathlib.Core.Logic.{inl}
 use native.Mathlib.Omega.{arith}
-use lib.Dec.{leb, ltb}
+use lib.Dec.{ltb}
 use lib.ListN.{length, getD, take, drop, length-drop, take-append-drop}
 use lib.Seq.{length-take-le, take-append-add, drop-append-le, take-add, drop-at, take-take}
-use borrow.Author.Tests.{le-leb, lt-leb, ltb-true, ltb-false}
+use borrow.Author.Tests.{lt-leb, ltb-true, ltb-false}
 use Rattle.causes.specs.declared.Cause.{Cause}
-use Rattle.causes.specs.declared.Cause.the-variants.{Sign, Header as BadHeader, RasterLength, PictureNumber}
-use Rattle.causes.specs.Causes.{must}
+use Rattle.causes.specs.declared.Cause.the-variants.{Sign, Header as BadHeader, RasterLength}
 use Rattle.pgm_header.specs.Header.{sign, starts-with-sign, white-at, header-at}
 use Rattle.pgm_header.specs.declared.Header.{Header}
 use Rattle.pgm_header.specs.declared.Header.the-variants.{Read, Broken}
@@ -20,7 +19,7 @@ use Rattle.pgm_header.specs.declared.Part.the-variants.{Value}
 use Rattle.pgm_header.proofs.Parts.{part-at}
 use Rattle.pgm_header.proofs.Scan.{white-below, whole-header}
 use Rattle.pgm_header.proofs.Whole.{part-found, part-after, header-read}
-use Rattle.pgm_read.specs.Read.{judged, picture-at, after-picture, unless-faulty, pictures-from, read-answer}
+use Rattle.pgm_read.specs.Read.{judged, picture-at, read-answer}
 use Rattle.pgm_read.specs.declared.Found.{Found}
 use Rattle.pgm_read.specs.declared.Found.the-variants.{Picture, Refused}
 use Rattle.pgm_read.proofs.Judging.{Accepted, accepted, goes-on, signed, unsigned, judged-broken, judged-length}
@@ -28,7 +27,7 @@ use Rattle.pgm.specs.Burst.Pages.{none}
 use Rattle.pgm.specs.Cut.{cut-cause, CutInHeader}
 use Rattle.pgm.proofs.Parts.{part-stands, white-here, white-stands, part-read, white-stops}
 use Rattle.pgm.proofs.Shape.{bytes-from, after-sign, sign-first}
-use Rattle.pgm.proofs.Burst.{faulty-refused}
+use Rattle.pgm.proofs.Burst.{faulty-refused, first-answer}
 
 -- two files that have their first bytes in common, up to the end of a header
 module _ (file : List ℕ) (end : ℕ) (within : end ≤ length file) (rest : List ℕ) (other : List ℕ) (is : other ≡ take end file ++ rest) where
@@ -156,24 +155,6 @@ module _ (file : List ℕ) (width height maximum start : ℕ) (e : picture-at fi
       ∙ ap (judged front) (cut-whole file width height maximum start left (a .1 .header) l)
       ∙ sym (judged-length front width height maximum start (a .1 .maximum-right) (a .1 .sides-right) (lt-leb (width * height) (length front - start) (omega (arith, size, l, m))))
       )
-
--- an answer that is a picture's was not kept back by a faulty one
-unfaulty : (pictures : List Found) (answer : Found) (width height maximum start : ℕ) → unless-faulty pictures answer ≡ Picture width height maximum start → (any : Found) → unless-faulty pictures any ≡ any
-unfolding unless-faulty
-unfaulty [] answer w h m s e any = refl
-unfaulty (Refused cause ∷ rest) answer w h m s e any = let z : _≡_ {A = ℕ} 0 1 = cc in absurd (omega arith)
-unfaulty (Picture w′ h′ m′ s′ ∷ rest) answer w h m s e any = unfaulty rest answer w h m s e any
-
--- number 1 is that of the first picture
-named-first : (p : Found) (rest : List Found) → must Refused (leb 1 (length (p ∷ rest))) PictureNumber p ≡ p
-named-first p rest = simp (le-leb 1 (suc (length rest)) (omega arith))
-
--- so the first picture of an accepted file is answered for it
-first-answer : (file : List ℕ) (named width height maximum start : ℕ) → read-answer file named ≡ Picture width height maximum start → read-answer file 1 ≡ picture-at file 0
-unfolding read-answer pictures-from
-first-answer file named width height maximum start e =
-    unfaulty _ _ width height maximum start e _
-    ∙ named-first (picture-at file 0) (after-picture file (pictures-from (length file) file) (picture-at file 0))
 
 -- "an accepted file cut anywhere within its first header answers 8 if less than the sign is left, else 9"
 pub cut-accepted : (file : List ℕ) (named width height maximum start : ℕ) → read-answer file named ≡ Picture width height maximum start → CutInHeader file

@@ -38,29 +38,31 @@ module _ (file : List ℕ) where
       go true e = simp e
       go false e = simp e
 
-  module _ (width : ℕ) where
-    module _ (height : ℕ) where
-      from-last : Part → Header
-      from-last p = found-then p (λ maximum maximum-end. one-white-then file maximum-end (λ start. Read width height maximum start))
+  -- the steps after each number
+  after-maximum : ℕ → ℕ → ℕ → ℕ → Header
+  after-maximum width height maximum end = one-white-then file end (λ start. Read width height maximum start)
 
-      last-same : (p : Part) → from-last p ≡ last-white-at file width height p
-      unfolding from-last last-white-at
-      last-same Broken = refl
-      last-same (Value maximum end) = refl
+  after-height : ℕ → ℕ → ℕ → Header
+  after-height width height end = gap-then file end (λ from. number-then file from (after-maximum width height))
 
-    from-maximum : Part → Header
-    from-maximum p = found-then p (λ height height-end. gap-then file height-end (λ maximum-at. number-then file maximum-at (λ maximum maximum-end. one-white-then file maximum-end (λ start. Read width height maximum start))))
+  after-width : ℕ → ℕ → Header
+  after-width width end = gap-then file end (λ from. number-then file from (after-height width))
 
-    maximum-same : (p : Part) → from-maximum p ≡ maximum-at file width p
-    unfolding from-maximum from-last maximum-at
-    maximum-same Broken = refl
-    maximum-same (Value height end) = one-part end _ ∙ last-same height (part-at file end)
+  last-same : (width height : ℕ) (p : Part) → found-then p (after-maximum width height) ≡ last-white-at file width height p
+  unfolding after-maximum last-white-at
+  last-same width height Broken = refl
+  last-same width height (Value maximum end) = refl
 
-  height-same : (p : Part) → found-then p (λ width width-end. gap-then file width-end (λ height-at. number-then file height-at (λ height height-end. gap-then file height-end (λ maximum-at. number-then file maximum-at (λ maximum maximum-end. one-white-then file maximum-end (λ start. Read width height maximum start)))))) ≡ height-at file p
-  unfolding from-maximum height-at
+  maximum-same : (width : ℕ) (p : Part) → found-then p (after-height width) ≡ maximum-at file width p
+  unfolding after-height maximum-at
+  maximum-same width Broken = refl
+  maximum-same width (Value height end) = one-part end (after-maximum width height) ∙ last-same width height (part-at file end)
+
+  height-same : (p : Part) → found-then p after-width ≡ height-at file p
+  unfolding after-width height-at
   height-same Broken = refl
-  height-same (Value width end) = one-part end _ ∙ maximum-same width (part-at file end)
+  height-same (Value width end) = one-part end (after-height width) ∙ maximum-same width (part-at file end)
 
   pub in-parts : (at : ℕ) → header-at file at ≡ height-at file (part-at file at)
-  unfolding header-at
-  in-parts at = one-part at _ ∙ height-same (part-at file at)
+  unfolding header-at after-maximum after-height after-width
+  in-parts at = one-part at after-width ∙ height-same (part-at file at)

@@ -41,7 +41,10 @@ enum-told : tie.Need-enum-told
 enum-told c = search needs
 
 returns-2 : tie.Need-returns-2
-returns-2 c = no-width _ _ (part-without-number _ _ _ (sym (c .before .before .before .before .before .white-at .ensures) ∙ not-false _ (c .before .before .before .before .if1 .left)) (c .before .before .before .gap-end .ensures) (sym (c .before .before .number-at .ensures) ∙ c .enum-told .given .1))
+returns-2 c =
+    let at-gap = c .before .before .before in
+    no-width _ _
+    (part-without-number _ _ _ (sym (at-gap .before .before .white-at .ensures) ∙ not-false _ (at-gap .before .if1 .left)) (at-gap .gap-end .ensures) (sym (c .before .before .number-at .ensures) ∙ c .enum-told .given .1))
 
 white-at-requires-2 : tie.Need-white-at-requires-2
 white-at-requires-2 c κs = search needs
@@ -62,13 +65,24 @@ enum-told-2 : tie.Need-enum-told-2
 enum-told-2 c = search needs
 
 returns-4 : tie.Need-returns-4
-returns-4 c = no-height _ _ _ _ (width-part (c .before .before .before .before .before .before .before)) (part-without-number _ _ _ (sym (c .before .before .before .before .before .white-at2 .ensures) ∙ not-false _ (c .before .before .before .before .if2 .left)) (c .before .before .before .gap-end2 .ensures) (sym (c .before .before .number-at2 .ensures) ∙ c .enum-told2 .given .1))
+returns-4 c =
+    let at-gap = c .before .before .before in
+    let at-width = c .before .before .before .before .before .before .before in
+    no-height _ _
+    _ _ (width-part at-width)
+    (part-without-number _ _ _ (sym (at-gap .before .before .white-at2 .ensures) ∙ not-false _ (at-gap .before .if2 .left)) (at-gap .gap-end2 .ensures) (sym (c .before .before .number-at2 .ensures) ∙ c .enum-told2 .given .1))
 
 white-at-requires-3 : tie.Need-white-at-requires-3
 white-at-requires-3 c κs = search needs
 
 returns-5 : tie.Need-returns-5
-returns-5 c = no-maximum _ _ _ _ (width-part (c .before .before .before .before .before .before .before .before .before .before)) _ _ (height-part (c .before .before .before)) (part-without-gap _ _ (sym (c .before .white-at3 .ensures) ∙ not-true _ (c .if3 .taken)))
+returns-5 c =
+    let at-height = c .before .before .before in
+    let at-width = at-height .before .before .before .before .before .before .before in
+    no-maximum _ _
+    _ _ (width-part at-width)
+    _ _ (height-part at-height)
+    (part-without-gap _ _ (sym (c .before .white-at3 .ensures) ∙ not-true _ (c .if3 .taken)))
 
 gap-end-requires-3 : tie.Need-gap-end-requires-3
 gap-end-requires-3 c κs = search needs
@@ -83,19 +97,45 @@ enum-told-3 : tie.Need-enum-told-3
 enum-told-3 c = search needs
 
 returns-6 : tie.Need-returns-6
-returns-6 c = no-maximum _ _ _ _ (width-part (c .before .before .before .before .before .before .before .before .before .before .before .before .before .before)) _ _ (height-part (c .before .before .before .before .before .before .before)) (part-without-number _ _ _ (sym (c .before .before .before .before .before .white-at3 .ensures) ∙ not-false _ (c .before .before .before .before .if3 .left)) (c .before .before .before .gap-end3 .ensures) (sym (c .before .before .number-at3 .ensures) ∙ c .enum-told3 .given .1))
+returns-6 c =
+    let at-gap = c .before .before .before in
+    let at-height = c .before .before .before .before .before .before .before in
+    let at-width = at-height .before .before .before .before .before .before .before in
+    no-maximum _ _
+    _ _ (width-part at-width)
+    _ _ (height-part at-height)
+    (part-without-number _ _ _ (sym (at-gap .before .before .white-at3 .ensures) ∙ not-false _ (at-gap .before .if3 .left)) (at-gap .gap-end3 .ensures) (sym (c .before .before .number-at3 .ensures) ∙ c .enum-told3 .given .1))
 
 white-at-requires-4 : tie.Need-white-at-requires-4
 white-at-requires-4 c κs = search needs
 
 returns-7 : tie.Need-returns-7
-returns-7 c = no-last-white _ _ _ _ (width-part (c .before .before .before .before .before .before .before .before .before .before .before .before .before .before .before .before .before)) _ _ (height-part (c .before .before .before .before .before .before .before .before .before .before)) _ _ (maximum-part (c .before .before .before)) (sym (c .before .white-at4 .ensures) ∙ not-true _ (c .if4 .taken))
+returns-7 c =
+    let at-maximum = c .before .before .before in
+    let at-height = at-maximum .before .before .before .before .before .before .before in
+    let at-width = at-height .before .before .before .before .before .before .before in
+    no-last-white _ _
+    _ _ (width-part at-width)
+    _ _ (height-part at-height)
+    _ _ (maximum-part at-maximum)
+    (sym (c .before .white-at4 .ensures) ∙ not-true _ (c .if4 .taken))
 
 add-t17 : tie.Need-add-t17
-add-t17 c = omega (arith, c .before .before .before .before .before .before .before .before .before .before .before .before .before .before .before .before .before .before .before .before .before .before .before .before .good, white-below (now (c .before .before .before .before .before .before .before .before .before .before .before .before .before .before .before .before .before .before .before .before .before .before .before .before .args .file)) (c .before .before .before .maximum .given .0 .1 .0) (sym (c .before .white-at4 .ensures) ∙ not-false _ (c .if4 .left)))
+add-t17 c =
+    let at-maximum = c .before .before .before in
+    let at-start = at-maximum .before .before .before .before .before .before .before .before .before .before .before .before .before .before .before .before .before .before .before .before .before in
+    omega (arith, white-below (now (at-start .args .file)) (at-maximum .maximum .given .0 .1 .0) (sym (c .before .white-at4 .ensures) ∙ not-false _ (c .if4 .left)))
 
 returns-8 : tie.Need-returns-8
-returns-8 c = whole-header _ _ _ _ (width-part (c .before .before .before .before .before .before .before .before .before .before .before .before .before .before .before .before .before)) _ _ (height-part (c .before .before .before .before .before .before .before .before .before .before)) _ _ (maximum-part (c .before .before .before)) (sym (c .before .white-at4 .ensures) ∙ not-false _ (c .if4 .left))
+returns-8 c =
+    let at-maximum = c .before .before .before in
+    let at-height = at-maximum .before .before .before .before .before .before .before in
+    let at-width = at-height .before .before .before .before .before .before .before in
+    whole-header _ _
+    _ _ (width-part at-width)
+    _ _ (height-part at-height)
+    _ _ (maximum-part at-maximum)
+    (sym (c .before .white-at4 .ensures) ∙ not-false _ (c .if4 .left))
 
 pub header-at-spec : {M : Type 1} → statement M
 header-at-spec =
