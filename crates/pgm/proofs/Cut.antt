@@ -24,7 +24,7 @@ use Rattle.pgm_read.specs.declared.Found.{Found}
 use Rattle.pgm_read.specs.declared.Found.the-variants.{Picture, Refused}
 use Rattle.pgm_read.proofs.Judging.{Accepted, accepted, goes-on, signed, unsigned, judged-broken, judged-length}
 use Rattle.pgm.specs.Burst.Pages.{none}
-use Rattle.pgm.specs.Cut.{cut-cause, CutInHeader}
+use Rattle.pgm.specs.Cut.{cut-cause, CutShort}
 use Rattle.pgm.proofs.Parts.{part-stands, white-here, white-stands, part-read, white-stops}
 use Rattle.pgm.proofs.Shape.{bytes-from, after-sign, sign-first}
 use Rattle.pgm.proofs.Burst.{faulty-refused, first-answer}
@@ -95,7 +95,7 @@ pub header-own : (file other : List ℕ) (at width height maximum start : ℕ) �
 header-own file other at width height maximum start e same =
     header-same file start (header-within file at width height maximum start e) (drop start other) other (sym (take-append-drop start other) ∙ ap (λ (l : List ℕ). l ++ drop start other) (sym same)) at width height maximum e
 
--- the first left bytes of a file with a header that ends at start
+-- so many bytes of a file are left, whose header ends at start
 module _ (file : List ℕ) (width height maximum start left : ℕ) (e : header-at file 2 ≡ Read width height maximum start) where
   cut-broken : left < start → header-at (take left file) 2 ≡ Broken
   cut-broken l = go (header-at (take left file) 2) refl
@@ -131,36 +131,36 @@ first-faulty file cause e =
     faulty-refused (record { before = []; rest = file; earlier = 0; layout = refl; before-right = none; more = inl refl; faulty = e })
 
 module _ (file : List ℕ) (width height maximum start : ℕ) (e : picture-at file 0 ≡ Picture width height maximum start) (left : ℕ) where
-  a : (starts-with-sign file ≡ true) × Accepted file (header-at file 2) width height maximum start
-  a = accepted file 0 width height maximum start e
+  whole : (starts-with-sign file ≡ true) × Accepted file (header-at file 2) width height maximum start
+  whole = accepted file 0 width height maximum start e
 
   -- a cut within the first header
   pub cut-header : left < start → (number : ℕ) → read-answer (take left file) number ≡ Refused (cut-cause left)
   cut-header l = first-faulty (take left file) (cut-cause left) (go (ltb left 2) refl)
     where
       go : (t : Bool) → ltb left 2 ≡ t → picture-at (take left file) 0 ≡ Refused (cond t Sign BadHeader)
-      go true f = sym (unsigned (take left file) 0 (sign-cut file left (ltb-true left 2 f) (omega (arith, header-within file 2 width height maximum start (a .1 .header)))))
+      go true f = sym (unsigned (take left file) 0 (sign-cut file left (ltb-true left 2 f) (omega (arith, header-within file 2 width height maximum start (whole .1 .header)))))
       go false f =
-          sym (signed (take left file) 0 (sign-left file left (a .0) (ltb-false left 2 f)))
-          ∙ ap (judged (take left file)) (cut-broken file width height maximum start left (a .1 .header) l)
+          sym (signed (take left file) 0 (sign-left file left (whole .0) (ltb-false left 2 f)))
+          ∙ ap (judged (take left file)) (cut-broken file width height maximum start left (whole .1 .header) l)
           ∙ sym (judged-broken (take left file))
 
   -- a cut after it and within the first raster: "a raster cut short stays 11"
   pub cut-raster : start ≤ left → left < start + width * height → (number : ℕ) → read-answer (take left file) number ≡ Refused RasterLength
   cut-raster l m =
       let front : List ℕ = take left file in
-      let size : length front ≡ left = length-take-le left file (omega (arith, a .1 .length-right)) in
+      let size : length front ≡ left = length-take-le left file (omega (arith, whole .1 .length-right)) in
       first-faulty front RasterLength (
-      sym (signed front 0 (sign-left file left (a .0) (omega (arith, goes-on file 0 width height maximum start e .0, l))))
-      ∙ ap (judged front) (cut-whole file width height maximum start left (a .1 .header) l)
-      ∙ sym (judged-length front width height maximum start (a .1 .maximum-right) (a .1 .sides-right) (lt-leb (width * height) (length front - start) (omega (arith, size, l, m))))
+      sym (signed front 0 (sign-left file left (whole .0) (omega (arith, goes-on file 0 width height maximum start e .0, l))))
+      ∙ ap (judged front) (cut-whole file width height maximum start left (whole .1 .header) l)
+      ∙ sym (judged-length front width height maximum start (whole .1 .maximum-right) (whole .1 .sides-right) (lt-leb (width * height) (length front - start) (omega (arith, size, l, m))))
       )
 
 -- "an accepted file cut anywhere within its first header answers 8 if less than the sign is left, else 9"
-pub cut-accepted : (file : List ℕ) (named width height maximum start : ℕ) → read-answer file named ≡ Picture width height maximum start → CutInHeader file
+pub cut-accepted : (file : List ℕ) (named width height maximum start : ℕ) → read-answer file named ≡ Picture width height maximum start → CutShort file
 cut-accepted file named width height maximum start e = go (picture-at file 0) refl
   where
-    go : (found : Found) → picture-at file 0 ≡ found → CutInHeader file
+    go : (found : Found) → picture-at file 0 ≡ found → CutShort file
     go (Refused cause) f =
         let g : Refused cause ≡ Picture width height maximum start = sym (first-faulty file cause f named) ∙ e in
         let z : _≡_ {A = ℕ} 0 1 = cc in
@@ -172,5 +172,6 @@ cut-accepted file named width height maximum start e = go (picture-at file 0) re
           maximum = m;
           end = s;
           first = first-answer file named width height maximum start e ∙ f;
-          cut = λ left. cut-header file w h m s f left;
+          header-cut = λ left. cut-header file w h m s f left;
+          raster-cut = λ left. cut-raster file w h m s f left;
         }

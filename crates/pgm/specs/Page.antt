@@ -1,4 +1,4 @@
--- A picture's own bytes as the Netpbm page lists them, with the numbers of its list.
+-- A picture's own bytes as the Netpbm page lists them, numbered as they stand in its list.
 use Prim.Native.Nat.{ℕ, _+_, _*_, _≤_}
 use mathlib.Core.Path.{_≡_}
 use mathlib.Core.Bool.{Bool, true, false}

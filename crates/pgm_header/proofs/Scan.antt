@@ -12,9 +12,10 @@ use borrow.Author.Tests.{le-leb, lt-leb, eq-eqb, leb-true, ltb-true}
 use Rattle.causes.proofs.Laws.{both-true}
 use Rattle.causes.proofs.Lists.{from-here}
 use Rattle.pgm_header.specs.Bytes.{move-of, is-white, is-digit, white-move, digit-move, ends-comment}
-use Rattle.pgm_header.specs.Header.{starts-with-sign, gap-length, digit-count, decimal-value, most-digits, finished-number, number-at, white-at, header-at}
+use Rattle.pgm_header.specs.Header.{starts-with-sign, gap-length, digit-count, decimal-value, most-digits, finished-number, number-at, white-at, gap-at, header-at}
 use Rattle.pgm_header.proofs.Parts.{part-at, last-white-at, maximum-at, height-at, in-parts}
 use Rattle.pgm_header.specs.declared.Move.the-variants.{White, Digit, Comment, Foreign}
+use Rattle.pgm_header.specs.declared.Gap.the-variants.{Ends, Missing}
 use Rattle.pgm_header.specs.declared.Part.the-variants.{Value, Broken}
 use Rattle.pgm_header.specs.declared.Header.the-variants.{Read, Broken as BrokenHeader}
 
@@ -132,18 +133,13 @@ reading-done file from at value count r s =
 pub white-below : (file : List ℕ) (at : ℕ) → white-at file at ≡ true → at < length file
 white-below file at e = ltb-true at (length file) (both-true (ltb at (length file)) (white-move (move-of (getD file at 0))) e .0)
 
--- a gap is passed and a number follows, or there is none
-pub part-taken : (file : List ℕ) (at from number after : ℕ) → white-at file at ≡ true → from ≡ at + gap-length false (drop at file) → number-at file from ≡ Value number after → part-at file at ≡ Value number after
-unfolding part-at
-part-taken file at from number after white e n = simp (white, ← e, n)
+pub gap-ends : (file : List ℕ) (at end : ℕ) → white-at file at ≡ true → end ≡ at + gap-length false (drop at file) → Ends end ≡ gap-at file at
+unfolding gap-at
+gap-ends file at end white e = simp (white, e)
 
-pub part-without-number : (file : List ℕ) (at from : ℕ) → white-at file at ≡ true → from ≡ at + gap-length false (drop at file) → number-at file from ≡ Broken → part-at file at ≡ Broken
-unfolding part-at
-part-without-number file at from white e n = simp (white, ← e, n)
-
-pub part-without-gap : (file : List ℕ) (at : ℕ) → white-at file at ≡ false → part-at file at ≡ Broken
-unfolding part-at
-part-without-gap file at e = simp e
+pub gap-missing : (file : List ℕ) (at : ℕ) → white-at file at ≡ false → Missing ≡ gap-at file at
+unfolding gap-at
+gap-missing file at e = simp e
 
 -- the header, part by part: where it breaks, and where it does not
 module _ (file : List ℕ) (at : ℕ) where

@@ -1,11 +1,13 @@
--- The header of a picture, read from a position on in the order of the Netpbm page, whose list gives the steps their numbers: 1. the sign,
--- 2. white, 3. the width, 4. white, 5. the height, 6. white, 7. the maximum, 8. one white byte, and then 9. the raster.
+-- The header of a picture, read from a position on in the order of the Netpbm page. The parts are numbered as they stand in its list: 1. the
+-- sign, 2. white, 3. the width, 4. white, 5. the height, 6. white, 7. the maximum, 8. one white byte, and then 9. the raster.
 use Prim.Native.Nat.{ℕ, suc, _+_, _*_, _-_}
 use mathlib.Core.Bool.{Bool, true, false, not, cond, _&&_}
 use mathlib.Core.List.{List, [], _∷_}
 use lib.ListN.{length, getD, drop}
 use lib.Dec.{leb, ltb, eqb}
 use Rattle.pgm_header.specs.Bytes.{move-of, by-move, white-move, digit-move, ends-comment}
+use Rattle.pgm_header.specs.declared.Gap.{Gap}
+use Rattle.pgm_header.specs.declared.Gap.the-variants.{Ends, Missing}
 use Rattle.pgm_header.specs.declared.Part.{Part}
 use Rattle.pgm_header.specs.declared.Part.the-variants.{Value, Broken}
 use Rattle.pgm_header.specs.declared.Header.{Header}
@@ -18,7 +20,7 @@ sign = 80 ∷ 53 ∷ []
 abbrev pub starts-with-sign : List ℕ → Bool
 starts-with-sign file = leb (length sign) (length file) && (eqb (getD file 0 0) (getD sign 0 0) && eqb (getD file 1 0) (getD sign 1 0))
 
--- 2., 4., 6. "A gap starts with a white byte and goes on over white bytes and comments; a comment runs from # through the next 10 or 13."
+-- "A gap starts with a white byte and goes on over white bytes and comments; a comment runs from # through the next 10 or 13."
 -- How many bytes of s belong to a gap that is under way; inside says whether s starts inside a comment
 unfoldable pub gap-length : Bool → List ℕ → ℕ
 gap-length inside [] = 0
@@ -55,16 +57,18 @@ number-at file at =
     (finished-number (decimal-value 0 (drop at file)) (digit-count (drop at file)) (at + digit-count (drop at file)))
     Broken
 
--- A step after the sign hands on where its part ends, and what a number is; where it does not find its part, the header is broken
-abbrev pub gap-then : List ℕ → ℕ → (ℕ → Header) → Header
-gap-then file at next = cond (white-at file at) (next (at + gap-length false (drop at file))) BrokenHeader
+-- 2., 4., 6. a gap, and where it ends
+unfoldable pub gap-at : List ℕ → ℕ → Gap
+gap-at file at = cond (white-at file at) (Ends (at + gap-length false (drop at file))) Missing
 
-abbrev pub found-then : Part → (ℕ → ℕ → Header) → Header
-found-then (Value number after) next = next number after
-found-then Broken next = BrokenHeader
+-- A step hands on where its part ends, and a number also its value; where it does not find its part, the header is broken
+abbrev pub gap-then : Gap → (ℕ → Header) → Header
+gap-then (Ends end) next = next end
+gap-then Missing next = BrokenHeader
 
-abbrev pub number-then : List ℕ → ℕ → (ℕ → ℕ → Header) → Header
-number-then file at next = found-then (number-at file at) next
+abbrev pub number-then : Part → (ℕ → ℕ → Header) → Header
+number-then (Value number end) next = next number end
+number-then Broken next = BrokenHeader
 
 abbrev pub one-white-then : List ℕ → ℕ → (ℕ → Header) → Header
 one-white-then file at next = cond (white-at file at) (next (at + 1)) BrokenHeader
@@ -73,17 +77,17 @@ one-white-then file at next = cond (white-at file at) (next (at + 1)) BrokenHead
 unfoldable pub header-at : List ℕ → ℕ → Header
 header-at file at =
     -- 2. "Whitespace"
-    gap-then file at (λ width-at.
+    gap-then (gap-at file at) (λ width-start.
     -- 3. "A width"
-    number-then file width-at (λ width width-end.
+    number-then (number-at file width-start) (λ width width-end.
     -- 4. "Whitespace"
-    gap-then file width-end (λ height-at.
+    gap-then (gap-at file width-end) (λ height-start.
     -- 5. "A height"
-    number-then file height-at (λ height height-end.
+    number-then (number-at file height-start) (λ height height-end.
     -- 6. "Whitespace"
-    gap-then file height-end (λ maximum-at.
+    gap-then (gap-at file height-end) (λ maximum-start.
     -- 7. "The maximum gray value"
-    number-then file maximum-at (λ maximum maximum-end.
+    number-then (number-at file maximum-start) (λ maximum maximum-end.
     -- 8. "A single whitespace character"
     one-white-then file maximum-end (λ start.
     Read width height maximum start)))))))

@@ -7,7 +7,7 @@ ghost use mathlib.Core.Bool.{false};
 ghost use Prim.Native.Nat.{_+_};
 ghost use lib.ListN.{drop};
 ghost use Rattle.pgm_header.specs.Bytes.{move-of, white-move, digit-move, ends-comment};
-ghost use Rattle.pgm_header.specs.Header.{starts-with-sign, gap-length, finished-number, number-at, white-at, header-at};
+ghost use Rattle.pgm_header.specs.Header.{starts-with-sign, gap-length, finished-number, number-at, white-at, gap-at, header-at};
 
 pub mod reader;
 
@@ -61,6 +61,12 @@ fn is_digit(m: Move) -> bool
     }
 }
 
+// Where a gap ends.
+pub enum Gap {
+    Ends(usize),
+    Missing,
+}
+
 // A number of the header and the position after it.
 pub enum Part {
     Value(u32, usize),
@@ -96,7 +102,7 @@ fn ends_comment(b: u8) -> bool
     b == 10 || b == 13
 }
 
-// 2., 4., 6. "Whitespace": the position where digits start, past the white bytes and the comments from `from` on.
+// The position where digits start: past the white bytes and the comments from `from` on.
 fn gap_end(file: &[u8], from: usize) -> usize
     ensures { λ r. ⌜ r ≡ from + gap-length false (drop from (now (file .entry))) ⌝ }
 {
@@ -162,7 +168,7 @@ fn number_at(file: &[u8], from: usize) -> Part
     finished(value, count, at)
 }
 
-// Whether a white byte stands at `at`: a gap starts with one, and 8. is one.
+// Whether a white byte stands at `at`, as at the start of a gap and at 8.
 fn white_at(file: &[u8], at: usize) -> bool
     ensures { λ r. ⌜ r ≡ white-at (now (file .entry)) at ⌝ }
 {
@@ -172,35 +178,43 @@ fn white_at(file: &[u8], at: usize) -> bool
     is_white(sort(file[at]))
 }
 
+// 2., 4., 6. "Whitespace": the gap that stands at `at`.
+fn gap_at(file: &[u8], at: usize) -> Gap
+    ensures { λ r. ⌜ r ≡ gap-at (now (file .entry)) at ⌝ }
+{
+    if white_at(file, at) {
+        Gap::Ends(gap_end(file, at))
+    } else {
+        Gap::Missing
+    }
+}
+
 // The header of a picture whose sign ends at `at`: steps 2 to 8 of the Netpbm page, one by one.
 fn header_at(file: &[u8], at: usize) -> Header
     ensures { λ r. ⌜ r ≡ header-at (now (file .entry)) at ⌝ }
 {
     // 2. "Whitespace"
-    if !white_at(file, at) {
+    let Gap::Ends(width_start) = gap_at(file, at) else {
         return Header::Broken;
-    }
-    let width_at = gap_end(file, at);
+    };
     // 3. "A width"
-    let Part::Value(width, width_end) = number_at(file, width_at) else {
+    let Part::Value(width, width_end) = number_at(file, width_start) else {
         return Header::Broken;
     };
     // 4. "Whitespace"
-    if !white_at(file, width_end) {
+    let Gap::Ends(height_start) = gap_at(file, width_end) else {
         return Header::Broken;
-    }
-    let height_at = gap_end(file, width_end);
+    };
     // 5. "A height"
-    let Part::Value(height, height_end) = number_at(file, height_at) else {
+    let Part::Value(height, height_end) = number_at(file, height_start) else {
         return Header::Broken;
     };
     // 6. "Whitespace"
-    if !white_at(file, height_end) {
+    let Gap::Ends(maximum_start) = gap_at(file, height_end) else {
         return Header::Broken;
-    }
-    let maximum_at = gap_end(file, height_end);
+    };
     // 7. "The maximum gray value"
-    let Part::Value(maximum, maximum_end) = number_at(file, maximum_at) else {
+    let Part::Value(maximum, maximum_end) = number_at(file, maximum_start) else {
         return Header::Broken;
     };
     // 8. "A single whitespace character"

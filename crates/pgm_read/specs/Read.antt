@@ -18,7 +18,7 @@ use Rattle.pgm_read.specs.declared.Located.{Located}
 use Rattle.pgm_read.specs.declared.Located.the-variants.{Picture as Found-at, Refused as Not-found}
 use Rattle.pgm_read.specs.declared.Span.{Span}
 
--- a whole header, judged, and 9., the raster: the maximum, the sides, the number of raster bytes ("a raster cut short stays 11"), the samples
+-- a whole header and 9., the raster, judged: the maximum, the sides, the number of raster bytes ("a raster cut short stays 11"), the samples
 unfoldable pub judged : List ℕ → Header → Found
 judged file Broken = Refused BadHeader
 judged file (Read width height maximum start) =

@@ -69,6 +69,7 @@ fn judge(file: &[u8], found: Header) -> Found
     if !causes::fit(width, height) {
         return Found::Refused(Cause::Sides);
     }
+    // 9. the raster
     let n = pgm_values::pixels(width, height);
     if !follow(file, start, n) {
         return Found::Refused(Cause::RasterLength);
@@ -95,7 +96,7 @@ fn picture_at(file: &[u8], at: usize) -> Found
     if !pgm_header::has_sign(&file[at..]) {
         return Found::Refused(Cause::Sign);
     }
-    // 2. to 8. white, width, white, height, white, maximum, one white byte; and then 9. the raster
+    // 2. to 8. white, width, white, height, white, maximum, one white byte; then 9., in `judge`
     judge(file, reader::header_of(file, at + pgm_header::MAGIC_LENGTH))
 }
 
