@@ -15,8 +15,8 @@ use Rattle.pgm_read.specs.declared.Found.the-variants.{Picture, Refused}
 abbrev pub cut-cause : ℕ → Cause
 cut-cause left = cond (ltb left (length sign)) Sign BadHeader
 
--- A file that is cut short in its first picture, whichever picture is then asked for. The first header ends where the first raster starts,
--- its last white byte included
+-- What a file answers that is cut short in its first picture, whichever picture is then asked for. The first header ends where the first
+-- raster starts, its last white byte included
 pub record CutShort (file : List ℕ) : Type 0 where
   pub width : ℕ
   pub height : ℕ

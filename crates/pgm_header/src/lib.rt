@@ -1,6 +1,6 @@
-// The header of a PGM picture, read from a position on in the order of the Netpbm page. The parts of that page's list have numbers here,
-// in code, definitions and documents: 1. the sign, 2. white, 3. the width, 4. white, 5. the height, 6. white, 7. the maximum, 8. one white
-// byte, 9. the raster. The magic is a constant that the reader compares and the writer writes. What the numbers of the header may be is
+// The header of a PGM picture, read from a position on in the order of the Netpbm page. In code, definitions and documents the parts are
+// numbered as they stand in that page's list: 1. the sign, 2. white, 3. the width, 4. white, 5. the height, 6. white, 7. the maximum, 8. one
+// white byte, 9. the raster. The magic is a constant that the reader compares and the writer writes. What the numbers of the header may be is
 // judged by the crates above.
 ghost use mathlib.Core.Path.{_≡_};
 ghost use mathlib.Core.Bool.{false};
