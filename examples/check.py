@@ -657,7 +657,7 @@ class Bursts(unittest.TestCase):
         for first, picture in enumerate(BURST):
             file = b"".join(BURST_FILES[first:])
             header = len(BURST_FILES[first]) - len(picture.raster)  # its last white byte included
-            for left in range(header + len(picture.raster)):
+            for left in range(len(BURST_FILES[first])):
                 cause = 8 if left < 2 else 9 if left < header else 11
                 for number in 0, 1, 2, 2 ** 64 - 1:
                     self.assertEqual(answer(teldruf.read, file[:left], number), cause, (file[:left], number))

@@ -1,7 +1,7 @@
 -- An accepted file is exactly a sequence of pages: `accepted-page` gives the page of the number, among pages before and after it, and
--- `page-accepted` the answer and the raster where there is such a page. Of a file of pages the numbers from 1 to their count are accepted
--- (`pages-accepted`), and no others (`beyond`, `not-named`). In any other file a picture after some pages is faulty, and the first such
--- gives the cause (`faulty-refused`, `refused-faulty`). Assumes nothing.
+-- `page-accepted` the answer and the raster where there is such a page; number 1 is that of the first picture (`first-answer`). Of a file of
+-- pages the numbers from 1 to their count are accepted (`pages-accepted`), and no others (`beyond`, `not-named`). In any other file a picture
+-- after some pages is faulty, and the first such gives the cause (`faulty-refused`, `refused-faulty`). Assumes nothing.
 use Prim.Native.Nat.{ℕ, zero, suc, _+_, _-_, _≤_, _<_}
 use mathlib.Core.Path.{_≡_, refl, sym, _∙_, ap}
 use mathlib.Core.Bool.{Bool, true, false, _&&_}

@@ -7,8 +7,8 @@ use mathlib.Core.Bool.{Bool, true, false, cond}
 use mathlib.Core.List.{List}
 use lib.ListN.{drop}
 use Rattle.pgm_header.specs.Header.{gap-length, white-at, number-at, gap-at, gap-then, number-then, one-white-then, header-at}
-use Rattle.pgm_header.specs.declared.Gap.{Gap}
-use Rattle.pgm_header.specs.declared.Gap.the-variants.{Ends, Missing}
+use Rattle.pgm_header.specs.declared.GapFound.{GapFound}
+use Rattle.pgm_header.specs.declared.GapFound.the-variants.{Ends, Missing}
 use Rattle.pgm_header.specs.declared.Part.{Part}
 use Rattle.pgm_header.specs.declared.Part.the-variants.{Value, Broken}
 use Rattle.pgm_header.specs.declared.Header.{Header}
@@ -32,13 +32,13 @@ height-at file Broken = BrokenHeader
 height-at file (Value width at) = maximum-at file width (part-at file at)
 
 -- the number after a gap
-abbrev pub gap-part : List ℕ → Gap → Part
+abbrev pub gap-part : List ℕ → GapFound → Part
 gap-part file (Ends from) = number-at file from
 gap-part file Missing = Broken
 
 module _ (file : List ℕ) where
   -- a gap and a number, one after the other, are a part
-  pub part-by-gap : (at : ℕ) (g : Gap) → gap-at file at ≡ g → part-at file at ≡ gap-part file g
+  pub part-by-gap : (at : ℕ) (g : GapFound) → gap-at file at ≡ g → part-at file at ≡ gap-part file g
   unfolding part-at gap-at
   part-by-gap at g e = go (white-at file at) refl ∙ ap (gap-part file) e
     where
@@ -49,7 +49,7 @@ module _ (file : List ℕ) where
   one-part : (at : ℕ) (next : ℕ → ℕ → Header) → gap-then (gap-at file at) (λ from. number-then (number-at file from) next) ≡ number-then (part-at file at) next
   one-part at next = go (gap-at file at) refl
     where
-      go : (g : Gap) → gap-at file at ≡ g → gap-then g (λ from. number-then (number-at file from) next) ≡ number-then (part-at file at) next
+      go : (g : GapFound) → gap-at file at ≡ g → gap-then g (λ from. number-then (number-at file from) next) ≡ number-then (part-at file at) next
       go (Ends from) e = ap (λ (p : Part). number-then p next) (sym (part-by-gap at (Ends from) e))
       go Missing e = ap (λ (p : Part). number-then p next) (sym (part-by-gap at Missing e))
 

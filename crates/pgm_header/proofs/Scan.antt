@@ -15,7 +15,7 @@ use Rattle.pgm_header.specs.Bytes.{move-of, is-white, is-digit, white-mo
 use Rattle.pgm_header.specs.Header.{starts-with-sign, gap-length, digit-count, decimal-value, most-digits, finished-number, number-at, white-at, gap-at, header-at}
 use Rattle.pgm_header.proofs.Parts.{part-at, last-white-at, maximum-at, height-at, in-parts}
 use Rattle.pgm_header.specs.declared.Move.the-variants.{White, Digit, Comment, Foreign}
-use Rattle.pgm_header.specs.declared.Gap.the-variants.{Ends, Missing}
+use Rattle.pgm_header.specs.declared.GapFound.the-variants.{Ends, Missing}
 use Rattle.pgm_header.specs.declared.Part.the-variants.{Value, Broken}
 use Rattle.pgm_header.specs.declared.Header.the-variants.{Read, Broken as BrokenHeader}
 

@@ -6,8 +6,8 @@ use mathlib.Core.List.{List, [], _∷_}
 use lib.ListN.{length, getD, drop}
 use lib.Dec.{leb, ltb, eqb}
 use Rattle.pgm_header.specs.Bytes.{move-of, by-move, white-move, digit-move, ends-comment}
-use Rattle.pgm_header.specs.declared.Gap.{Gap}
-use Rattle.pgm_header.specs.declared.Gap.the-variants.{Ends, Missing}
+use Rattle.pgm_header.specs.declared.GapFound.{GapFound}
+use Rattle.pgm_header.specs.declared.GapFound.the-variants.{Ends, Missing}
 use Rattle.pgm_header.specs.declared.Part.{Part}
 use Rattle.pgm_header.specs.declared.Part.the-variants.{Value, Broken}
 use Rattle.pgm_header.specs.declared.Header.{Header}
@@ -58,11 +58,11 @@ number-at file at =
     Broken
 
 -- 2., 4., 6. a gap, and where it ends
-unfoldable pub gap-at : List ℕ → ℕ → Gap
+unfoldable pub gap-at : List ℕ → ℕ → GapFound
 gap-at file at = cond (white-at file at) (Ends (at + gap-length false (drop at file))) Missing
 
--- A step hands on where its part ends, and a number also its value; where it does not find its part, the header is broken
-abbrev pub gap-then : Gap → (ℕ → Header) → Header
+-- A step hands on where its part ends, that of a number also the value; where it does not find its part, the header is broken
+abbrev pub gap-then : GapFound → (ℕ → Header) → Header
 gap-then (Ends end) next = next end
 gap-then Missing next = BrokenHeader
 
@@ -70,6 +70,7 @@ abbrev pub number-then : Part → (ℕ → ℕ → Header) → Header
 number-then (Value number end) next = next number end
 number-then Broken next = BrokenHeader
 
+-- 8. "exactly one white byte"
 abbrev pub one-white-then : List ℕ → ℕ → (ℕ → Header) → Header
 one-white-then file at next = cond (white-at file at) (next (at + 1)) BrokenHeader
 

@@ -61,8 +61,8 @@ fn is_digit(m: Move) -> bool
     }
 }
 
-// Where a gap ends.
-pub enum Gap {
+// A gap: where it ends, or that there is none.
+enum GapFound {
     Ends(usize),
     Missing,
 }
@@ -102,7 +102,7 @@ fn ends_comment(b: u8) -> bool
     b == 10 || b == 13
 }
 
-// The position where digits start: past the white bytes and the comments from `from` on.
+// The position past the white bytes and the comments from `from` on, where digits should start.
 fn gap_end(file: &[u8], from: usize) -> usize
     ensures { λ r. ⌜ r ≡ from + gap-length false (drop from (now (file .entry))) ⌝ }
 {
@@ -168,7 +168,7 @@ fn number_at(file: &[u8], from: usize) -> Part
     finished(value, count, at)
 }
 
-// Whether a white byte stands at `at`, as at the start of a gap and at 8.
+// Whether a white byte stands at `at`: a gap starts with one, and step 8 is one.
 fn white_at(file: &[u8], at: usize) -> bool
     ensures { λ r. ⌜ r ≡ white-at (now (file .entry)) at ⌝ }
 {
@@ -179,13 +179,13 @@ fn white_at(file: &[u8], at: usize) -> bool
 }
 
 // 2., 4., 6. "Whitespace": the gap that stands at `at`.
-fn gap_at(file: &[u8], at: usize) -> Gap
+fn gap_at(file: &[u8], at: usize) -> GapFound
     ensures { λ r. ⌜ r ≡ gap-at (now (file .entry)) at ⌝ }
 {
     if white_at(file, at) {
-        Gap::Ends(gap_end(file, at))
+        GapFound::Ends(gap_end(file, at))
     } else {
-        Gap::Missing
+        GapFound::Missing
     }
 }
 
@@ -194,7 +194,7 @@ fn header_at(file: &[u8], at: usize) -> Header
     ensures { λ r. ⌜ r ≡ header-at (now (file .entry)) at ⌝ }
 {
     // 2. "Whitespace"
-    let Gap::Ends(width_start) = gap_at(file, at) else {
+    let GapFound::Ends(width_start) = gap_at(file, at) else {
         return Header::Broken;
     };
     // 3. "A width"
@@ -202,7 +202,7 @@ fn header_at(file: &[u8], at: usize) -> Header
         return Header::Broken;
     };
     // 4. "Whitespace"
-    let Gap::Ends(height_start) = gap_at(file, width_end) else {
+    let GapFound::Ends(height_start) = gap_at(file, width_end) else {
         return Header::Broken;
     };
     // 5. "A height"
@@ -210,7 +210,7 @@ fn header_at(file: &[u8], at: usize) -> Header
         return Header::Broken;
     };
     // 6. "Whitespace"
-    let Gap::Ends(maximum_start) = gap_at(file, height_end) else {
+    let GapFound::Ends(maximum_start) = gap_at(file, height_end) else {
         return Header::Broken;
     };
     // 7. "The maximum gray value"
