@@ -1,5 +1,7 @@
 // The accumulators of the attributes, one word each: of no pixel, of one, of a set on the frame, of two sets together, and the attribute that
 // is read from one.
+#![tactic(auto)]
+
 ghost use Rattle.std.specs.Prelude.{◌≡◌, ◌+◌, ◌/◌, ◌%◌, ◌<◌, min, max};
 ghost use Rattle.causes.specs.Bounds.{longest_side};
 ghost use Rattle.accumulators.specs.Accumulators.{packed, nothing, lone, framed, combined, measured, Small, Capped, InOrder};

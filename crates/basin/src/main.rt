@@ -1,5 +1,6 @@
 // Sizes the first picture of basin.pgm by the steps of steps.tsv, both in the working folder, and prints a line for each pixel: its row, column,
 // grey, residue and index. A refusal prints its one line alone, since nothing is printed before every cause is judged.
+#![tactic(auto)]
 ghost use Rattle.std.specs.Prelude.{◌≡◌, ◌*◌, ◌≤◌, ◌<◌, length};
 ghost use Rattle.causes.specs.Bounds.{words_a_pixel};
 ghost use Rattle.basin_judging.specs.Judging.{most_sized};

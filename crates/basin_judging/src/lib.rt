@@ -1,4 +1,5 @@
 // What the program does with its two files: its causes for refusal, in its order. Nothing is read or printed here.
+#![tactic(auto)]
 ghost use Rattle.std.specs.Prelude.{◌≡◌};
 ghost use Rattle.steps.specs.Answer.{parse_answer, steps_after};
 ghost use Rattle.basin_judging.specs.Judging.{both_read, lengths_numbers, sized_by, job_of, job_numbers, job_steps};
@@ -18,21 +19,21 @@ const GAP: u32 = 0;
 pub const PICTURE: usize = 1;
 
 // How many bytes a file has, up to the length of the buffer that it was read into, or that it was not opened or read.
-#[derive(Drop)]
+#[derive(Clone, Copy)]
 pub enum Loaded {
     Bytes(usize),
     Failed,
 }
 
 // How many bytes each file has.
-#[derive(Drop)]
+#[derive(Clone, Copy)]
 pub enum Lengths {
     Both { picture: usize, list: usize },
     Refused(Cause),
 }
 
 // What is to be sized, and by how many steps and which gap.
-#[derive(Drop)]
+#[derive(Clone, Copy)]
 pub enum Job {
     Size {
         grid: Grid,

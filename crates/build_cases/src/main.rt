@@ -1,5 +1,6 @@
 // Builds max-trees and prints each answer on a line: the number of nodes or of the cause, then the workspace as the call left it: of a
 // short one every word, of a long one how many words it has. Before a call the workspace is lent full of 7.
+#![tactic(auto)]
 ghost use Rattle.std.specs.Prelude.{◌≡◌, length};
 
 use cases::{printing, table};

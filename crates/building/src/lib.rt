@@ -1,6 +1,7 @@
 // Building up to the record of a picture's max-tree, which is kept in a workspace: part 1 the parents, part 2 the attributes, part 3 the list of
 // the nodes, parts 4 to 7 scratch. The flood gives the nodes numbers, and the passes make the record of the words of the nodes. The calls are
 // in the crates above.
+#![tactic(auto)]
 ghost use Rattle.std.specs.Prelude.{◌++◌, ◌≡◌, ◌+◌, ◌-◌, ◌*◌, ◌≤◌, length, take, replicate};
 ghost use Rattle.levels.specs.Workspace.{Sized};
 ghost use Rattle.building.specs.Building.{Buildable, Flooded, Measured, Recordable, Recorded, Whole};

@@ -1,4 +1,5 @@
 // The calls on a picture: how what a call names and is lent is judged, and what a call answers. Judging writes nothing.
+#![tactic(auto)]
 ghost use Rattle.std.specs.Prelude.{◌*◌, ◌≡◌, eqb};
 ghost use Rattle.causes.specs.Bounds.{words_a_pixel};
 ghost use Rattle.grid.specs.Pixels.{pixels};
@@ -9,28 +10,28 @@ ghost use Rattle.calls.specs.Judging.{triples_good, step_good, list_good, gap_go
 use grid::{Grid, Triple};
 
 // What an opening call opens by: a threshold of an attribute, or one of each.
-#[derive(Drop)]
+#[derive(Clone, Copy)]
 pub enum Step {
     Threshold(u32, u32),
     Three(Triple),
 }
 
 // What the words of a step list are: thresholds of an attribute, or triples, three words to a step: area, height, width.
-#[derive(Drop)]
+#[derive(Clone, Copy)]
 pub enum Kind {
     Thresholds(u32),
     Triples,
 }
 
 // Whether a call is accepted, and if not the first cause that applies. This is also what an opening call and a map call answer.
-#[derive(Drop)]
+#[derive(Clone, Copy)]
 pub enum Verdict {
     Accepted,
     Refused(causes::Cause),
 }
 
 // What building answers: the number of nodes, or the cause.
-#[derive(Drop)]
+#[derive(Clone, Copy)]
 pub enum Built {
     Nodes(u32),
     Refused(causes::Cause),

@@ -1,4 +1,6 @@
 // The causes for which a call refuses its input, each with its number, and the bounds on a picture's sides that every call shares.
+#![tactic(auto)]
+
 ghost use Rattle.std.specs.Prelude.{◌≡◌};
 ghost use Rattle.causes.specs.Causes.{number_of};
 ghost use Rattle.causes.specs.Sides.{sides_fit};
@@ -16,7 +18,7 @@ pub const MOST_GAP: u32 = 256;
 
 pub const WORDS_A_PIXEL: usize = 7;
 
-#[derive(Drop)]
+#[derive(Clone, Copy)]
 pub enum Cause {
     Sides,
     PictureLength,

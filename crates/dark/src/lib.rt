@@ -1,5 +1,6 @@
 // Dark floc on light water: the dark map call and the combined map call. Dark maps are the light ones of the reversed picture, whose bytes stand in the
 // lent residue map until the maps are made of the pairs; so the calls need no memory beyond what they are lent.
+#![tactic(auto)]
 ghost use Rattle.std.specs.Prelude.{ℕ, ◌≡◌, length, get_or};
 ghost use Rattle.sets.specs.Sets.{table};
 ghost use Rattle.calls.specs.Judging.{verdict_numbers};

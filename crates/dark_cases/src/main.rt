@@ -1,6 +1,7 @@
 // Maps pictures and prints each answer on a line, as map_cases does: of dark floc where the second field is 1, of light and dark together where it is 2.
 // Before every call the workspace is lent full of 7, the residue map full of 8, the index map full of 9 and the contrast map full of -5. What a dark
 // call is not lent, the contrast map, is printed too.
+#![tactic(auto)]
 use cases::{printing, table};
 use grid::Grid;
 

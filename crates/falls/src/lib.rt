@@ -1,1 +1,2 @@
 // Where the nodes of a picture fall along a list of steps: definitions and laws.
+#![tactic(auto)]

@@ -1,6 +1,7 @@
 // Flooding of the max-tree with level queues. Part 1 of the workspace receives the number of each pixel's node, part 2 the numbers in the
 // order of closing, each with how far its level lies above its parent's, part 3 holds the queues, and the words of each node receive its
 // parent's number.
+#![tactic(auto)]
 ghost use Rattle.visits.specs.Visits.{held, at_entry, at_exit, Standing};
 ghost use Rattle.queues.specs.Queues.{taken_of};
 ghost use Rattle.flood.specs.Calls.{Leavable, Left, Floodable, NumberedBy};

@@ -1,9 +1,11 @@
 // The grid of a picture, by value: what a call names of its pixels' places and neighbours. Definitions of neighbours and attributes, and their laws, are over it.
 // And thresholds of all three attributes, by value.
+#![tactic(auto)]
+
 ghost use Rattle.std.specs.Prelude.{◌≡◌};
 ghost use Rattle.grid.specs.Pixels.{pixels};
 
-#[derive(Drop)]
+#[derive(Clone, Copy)]
 pub struct Grid {
     pub width: u32,
     pub height: u32,
@@ -11,7 +13,7 @@ pub struct Grid {
 }
 
 // A step of three thresholds: what a node must have of each attribute to stay.
-#[derive(Drop)]
+#[derive(Clone, Copy)]
 pub struct Triple {
     pub area: u32,
     pub height: u32,

@@ -1,5 +1,6 @@
 // Maps pictures and prints each answer on a line: done, or the number of the cause, then the residue map, the index map and the workspace
 // as the call left them. Before every call the workspace is lent full of 7, the residue map full of 8 and the index map full of 9.
+#![tactic(auto)]
 use cases::{printing, table};
 use grid::Grid;
 

@@ -1,4 +1,5 @@
 // The building call: the max-tree of a picture, whose record is left in the workspace.
+#![tactic(auto)]
 ghost use Rattle.std.specs.Prelude.{◌≡◌};
 ghost use Rattle.calls.specs.Calls.{build_call, built, built_numbers, build_workspace};
 

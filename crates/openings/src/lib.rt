@@ -1,6 +1,7 @@
 // The opening call. At a threshold of one attribute a picture is opened from its tree record. The climb asks no more of the record than that levels
 // fall, whichever own pixels stand for the nodes; the pass over the pixels asks that they are the lowest. By a triple, whose heights and widths the
 // record does not have, each pixel loses what its node falls along the list of that one step, as the maps find it.
+#![tactic(auto)]
 ghost use Rattle.std.specs.Prelude.{ℕ, ◌<◌, ◌≡◌, length};
 ghost use Rattle.sets.specs.Sets.{table};
 ghost use Rattle.calls.specs.Steps.{step_test, step_attribute};

@@ -1,5 +1,6 @@
 // Runs the opening call on the cases of small pictures and on each refusal, and prints a line for each: the answer, and the memory that
 // the output and the workspace are lent from. Before each call the output's holds 9s and the workspace's 7s.
+#![tactic(auto)]
 use cases::{printing, table};
 use grid::Grid;
 

@@ -1,5 +1,6 @@
 // Reads pictures of files and writes into buffers of every kind that the reader and the writer tell apart, and prints each answer on a
 // line: what was found or the number of the cause, and the bytes of the raster or of the buffer. Before a call the buffer is lent full of 1.
+#![tactic(auto)]
 ghost use Rattle.std.specs.Prelude.{◌≡◌, length};
 
 use cases::{printing, table};

@@ -2,6 +2,7 @@
 // numbered as they stand in that page's list: 1. the sign, 2. white, 3. the width, 4. white, 5. the height, 6. white, 7. the maximum, 8. one
 // white byte, 9. the raster. The magic is a constant that the reader compares and the writer writes. What the numbers of the header may be is
 // judged by the crates above.
+#![tactic(auto)]
 ghost use Rattle.std.specs.Prelude.{◌≡◌, false, ◌+◌, drop};
 ghost use Rattle.pgm_header.specs.Bytes.{move_of, white_move, digit_move, ends_comment};
 ghost use Rattle.pgm_header.specs.Header.{starts_with_sign, gap_length, finished_number, number_at, white_at, gap_at, header_at};
@@ -18,7 +19,7 @@ pub const MAGIC_LENGTH: usize = 2;
 const MOST_DIGITS: usize = 7;
 
 // The header reader's next move, by the byte that it stands at.
-#[derive(Drop)]
+#[derive(Clone, Copy)]
 pub enum Move {
     White,
     Digit,
@@ -60,20 +61,20 @@ fn is_digit(m: Move) -> bool
 }
 
 // A gap: where it ends, or that there is none.
-#[derive(Drop)]
+#[derive(Clone, Copy)]
 enum GapFound {
     Ends(usize),
     Missing,
 }
 
 // A number of the header and the position after it.
-#[derive(Drop)]
+#[derive(Clone, Copy)]
 pub enum Part {
     Value(u32, usize),
     Broken,
 }
 
-#[derive(Drop)]
+#[derive(Clone, Copy)]
 pub enum Header {
     Read {
         width: u32,

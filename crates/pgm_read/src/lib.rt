@@ -1,4 +1,5 @@
 // Reads binary PGM (P5) over lent memory: one picture of a file that holds one or more, end to end. Every call answers on every input.
+#![tactic(auto)]
 ghost use Rattle.std.specs.Prelude.{◌≡◌, cond, ◌-◌, ◌≤◌, leb, eqb, length};
 ghost use Rattle.pgm_header.specs.Header.{header_at};
 ghost use Rattle.pgm_read.specs.Read.{judged, picture_at, read_answer, found_in, found_there, found_numbers, raster_span, raster_part, raster_of};
@@ -7,7 +8,7 @@ use causes::Cause;
 use pgm_header::{Header, reader};
 
 // What reading finds: a picture's width, height and maximum and the position in the file where its raster starts, or the cause.
-#[derive(Drop)]
+#[derive(Clone, Copy)]
 pub enum Found {
     Picture {
         width: u32,
@@ -19,7 +20,7 @@ pub enum Found {
 }
 
 // The same, with the position where the picture itself starts.
-#[derive(Drop)]
+#[derive(Clone, Copy)]
 enum Located {
     Picture {
         at: usize,
@@ -32,7 +33,7 @@ enum Located {
 }
 
 // Where a part of a file lies.
-#[derive(Drop)]
+#[derive(Clone, Copy)]
 struct Span {
     start: usize,
     length: usize,

@@ -1,4 +1,5 @@
 // Writes binary PGM (P5) over lent memory. Every call answers on every input, and a refusal writes nothing.
+#![tactic(auto)]
 ghost use Rattle.std.specs.Prelude.{◌≡◌, true, ◌∷◌, ◌+◌, ◌*◌, ◌^◌, ◌≤◌, ◌<◌, length};
 ghost use Rattle.std.proofs.lemmas.List.Edits.{sets};
 ghost use Rattle.causes.specs.Sides.{sides_fit};
@@ -12,7 +13,7 @@ mod samples;
 use causes::Cause;
 
 // What writing answers: the number of bytes written, or the cause.
-#[derive(Drop)]
+#[derive(Clone, Copy)]
 pub enum Written {
     Bytes(usize),
     Refused(Cause),

@@ -1,6 +1,7 @@
 // At which step of a list each node falls, for steps of either kind: a node falls at the first step that it does not meet. Each node has a place
 // word, which starts at the number of steps and is lowered by each list of thresholds that applies: one for thresholds of an attribute; for triples
 // three, one a part, since a node meets a triple if it meets all three.
+#![tactic(auto)]
 ghost use Rattle.std.specs.Prelude.{true, ◌≡◌, ◌≤◌, ◌<◌, ◌*◌, length};
 ghost use Rattle.causes.specs.Bounds.{most_steps};
 ghost use Rattle.levels.specs.Workspace.{Sized};

@@ -1,6 +1,7 @@
 // The queues of the levels: each level has a run of part 3, a head and a tail in it, and the number of its open node. After the numbers
 // of the open nodes stand four words for the set of the open levels, one bit a level, how many numbers are taken, and how many nodes
 // are closed.
+#![tactic(auto)]
 ghost use Rattle.std.specs.Prelude.{◌≡◌, ◌+◌, ◌<◌, get_or, set};
 ghost use Rattle.queues.specs.Marks.{Marked, Highest};
 ghost use Rattle.queues.specs.Queues.{Nextable, NextNamed, Nameable, Naming, Puttable, pushed_words, Appendable, Fitting, Placing};

@@ -1,4 +1,5 @@
 // The map call: the residue map and the index map of a picture for a list of steps of either kind and a gap.
+#![tactic(auto)]
 ghost use Rattle.std.specs.Prelude.{◌≡◌};
 ghost use Rattle.calls.specs.Judging.{verdict_numbers};
 ghost use Rattle.calls.specs.Calls.{map_call, map_verdict, map_workspace, map_residue, map_index};

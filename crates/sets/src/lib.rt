@@ -1,1 +1,2 @@
 // Sets of positions: definitions and laws only, no code.
+#![tactic(auto)]

@@ -1,5 +1,6 @@
 // Steps files, good and bad, each parsed, with a line for each: what it tries, then the attribute and the number of steps, or the cause;
 // then each entry of the lent steps that parsing stored.
+#![tactic(auto)]
 use cases::{printing, table};
 use steps::Parsed;
 

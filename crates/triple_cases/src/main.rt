@@ -2,6 +2,7 @@
 // map where it is 2, of dark floc where it is 3, of light and dark together where it is 4. An opening is by the first three words, and its output is
 // lent from the residue map's memory. Before every call the workspace is lent full of 7, the residue map full of 8, the index map full of 9
 // and the contrast map full of -5; all four are printed, also what a call is not lent.
+#![tactic(auto)]
 use calls::Kind;
 use cases::{printing, table};
 use grid::{Grid, Triple};

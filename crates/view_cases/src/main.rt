@@ -1,4 +1,5 @@
 // Views rows of maps and prints each answer on a line: where the row starts, or the number of the cause, and then the part that is handed back.
+#![tactic(auto)]
 use cases::{printing, table};
 
 fn start(answer: viewer::Viewed) {

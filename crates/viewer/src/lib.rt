@@ -1,4 +1,5 @@
 // The viewer: a row of the light residue map or of the dark one, uncopied.
+#![tactic(auto)]
 ghost use Rattle.std.specs.Prelude.{◌≡◌};
 ghost use Rattle.calls.specs.Judging.{verdict_of};
 ghost use Rattle.viewer.specs.View.{view_call, in_view, viewing_tests, viewed_part, viewed, viewed_numbers};
@@ -7,7 +8,7 @@ use causes::Cause;
 use grid::Grid;
 
 // What the viewer answers: where the row starts in the map of its side, or the cause.
-#[derive(Drop)]
+#[derive(Clone, Copy)]
 pub enum Viewed {
     Start(u32),
     Refused(causes::Cause),

@@ -1,5 +1,6 @@
 // The visits: each neighbour of the pixel at the head of the current level that is not met is put into its queue, or takes the place at the
 // head. The flood moves on at once to a brighter one that was not met.
+#![tactic(auto)]
 ghost use Rattle.std.specs.Prelude.{◌≡◌, ◌%◌, ◌≤◌, ◌<◌, eqb};
 ghost use Rattle.levels.specs.Workspace.{Sized};
 ghost use Rattle.visits.specs.Visits.{held, at_entry, at_exit, Standing, Visiting, above, left_of, right_of, below};
