@@ -1,5 +1,6 @@
 // The calls on a picture: how what a call names and is lent is judged, and what a call answers. Judging writes nothing.
 #![tactic(auto)]
+
 ghost use Rattle.std.specs.Prelude.{◌*◌, ◌≡◌, eqb};
 ghost use Rattle.causes.specs.Bounds.{words_a_pixel};
 ghost use Rattle.grid.specs.Pixels.{pixels};

@@ -2,8 +2,9 @@
 // order of closing, each with how far its level lies above its parent's, part 3 holds the queues, and the words of each node receive its
 // parent's number.
 #![tactic(auto)]
-ghost use Rattle.visits.specs.Visits.{held, at_entry, at_exit, Standing};
-ghost use Rattle.queues.specs.Queues.{taken_of};
+
+ghost use Rattle.visits.specs.Visits.{Standing};
+ghost use Rattle.queues.specs.Queues.{lists, taken_of};
 ghost use Rattle.flood.specs.Calls.{Leavable, Left, Floodable, NumberedBy};
 
 use grid::Grid;
@@ -20,8 +21,8 @@ fn leave(
     tails: &[usize; 256],
     opened: &mut [usize; 262],
 ) -> usize
-    requires { Leavable grid picture.now (held ws heads tails opened) level p }
-    ensures { Left grid picture.now (at_entry ws heads tails opened) (at_exit ws heads tails opened) result }
+    requires { Leavable grid picture.now (lists ws.old heads.old tails.now opened.old) level p }
+    ensures { Left grid picture.now (lists ws.old heads.old tails.now opened.old) (lists ws.new heads.new tails.now opened.new) result }
 {
     heads[level] = heads[level] + 1;
     if heads[level] != tails[level] {
@@ -42,7 +43,7 @@ fn run(
     tails: &mut [usize; 256],
     opened: &mut [usize; 262],
 )
-    requires { Standing grid picture.now (held ws heads tails opened) start first }
+    requires { Standing grid picture.now (lists ws.old heads.old tails.old opened.old) start first }
     ensures { NumberedBy grid picture.now ws.new (taken_of opened.new) }
 {
     let n = picture.len();

@@ -1,6 +1,7 @@
 // The pass over the frame, after the pass over the own pixels: the accumulator of each node with a pixel in the first or last row or column
 // notes that. Only the pixels of the frame are read, so that the pass over all pixels needs no test.
 #![tactic(auto)]
+
 ghost use Rattle.std.specs.Prelude.{◌≡◌, ◌+◌, ◌*◌, ◌<◌, length};
 ghost use Rattle.frame.specs.Frame.{node_marked, Markable, run, Marked, Framable};
 ghost use Rattle.grid.specs.Attributes.{on_frame};

@@ -1,6 +1,7 @@
 // The pass over the own pixels of the nodes, after the flood: among the words of each node, its lowest own pixel and the accumulator of its
 // own pixels. The words of the nodes, parts 4 to 6, are lent on by themselves.
 #![tactic(auto)]
+
 ghost use Rattle.std.specs.Prelude.{◌≡◌, ◌*◌, ◌-◌, ◌≤◌, ◌<◌, length};
 ghost use Rattle.own_pixels.specs.Points.{position, point_of, coordinate};
 ghost use Rattle.own_pixels.specs.OwnPixels.{Countable, Blank, Gatherable, gathered_at, Seen, Owned};

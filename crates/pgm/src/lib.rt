@@ -2,5 +2,6 @@
 // What holds of both, that an accepted file has the page's shape and that a written picture reads back the same, is proved here, and what
 // a file that is cut short answers.
 #![tactic(auto)]
+
 pub use pgm_read::{Found, raster, read};
 pub use pgm_write::{Written, write};

@@ -1,6 +1,4 @@
 pub mod Parts
 pub mod Moves
 pub mod Scan
-pub mod Readers
-pub mod Reading
 pub mod Whole

@@ -3,6 +3,7 @@
 // white byte, 9. the raster. The magic is a constant that the reader compares and the writer writes. What the numbers of the header may be is
 // judged by the crates above.
 #![tactic(auto)]
+
 ghost use Rattle.std.specs.Prelude.{◌≡◌, false, ◌+◌, drop};
 ghost use Rattle.pgm_header.specs.Bytes.{move_of, white_move, digit_move, ends_comment};
 ghost use Rattle.pgm_header.specs.Header.{starts_with_sign, gap_length, finished_number, number_at, white_at, gap_at, header_at};

@@ -7,7 +7,7 @@ ghost use Rattle.pgm_header.specs.Header.{header_at};
 
 use crate::Header;
 
-#[derive(Drop)]
+#[derive(Clone, Copy)]
 pub struct Reader<'a> {
     pub file: &'a [u8],
     pub at: usize,

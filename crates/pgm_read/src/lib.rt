@@ -1,5 +1,6 @@
 // Reads binary PGM (P5) over lent memory: one picture of a file that holds one or more, end to end. Every call answers on every input.
 #![tactic(auto)]
+
 ghost use Rattle.std.specs.Prelude.{◌≡◌, cond, ◌-◌, ◌≤◌, leb, eqb, length};
 ghost use Rattle.pgm_header.specs.Header.{header_at};
 ghost use Rattle.pgm_read.specs.Read.{judged, picture_at, read_answer, found_in, found_there, found_numbers, raster_span, raster_part, raster_of};

@@ -1,5 +1,6 @@
 // The values of a picture that the reader and the writer of its file judge alike: the maximum, the number of pixels, the samples.
 #![tactic(auto)]
+
 ghost use Rattle.std.specs.Prelude.{◌≡◌, true, ◌*◌};
 ghost use Rattle.causes.specs.Sides.{sides_fit};
 ghost use Rattle.pgm_values.specs.Values.{maximum_fits, largest, all_at_most};

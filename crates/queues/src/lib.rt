@@ -2,6 +2,7 @@
 // of the open nodes stand four words for the set of the open levels, one bit a level, how many numbers are taken, and how many nodes
 // are closed.
 #![tactic(auto)]
+
 ghost use Rattle.std.specs.Prelude.{◌≡◌, ◌+◌, ◌<◌, get_or, set};
 ghost use Rattle.queues.specs.Marks.{Marked, Highest};
 ghost use Rattle.queues.specs.Queues.{Nextable, NextNamed, Nameable, Naming, Puttable, pushed_words, Appendable, Fitting, Placing};

@@ -1,5 +1,6 @@
 // The pass that writes the record of the tree from the words of the nodes, and notes the representatives in order of position.
 #![tactic(auto)]
+
 ghost use Rattle.std.specs.Prelude.{cond, ◌≡◌, ◌≤◌, eqb};
 ghost use Rattle.causes.specs.Bounds.{most_pixels};
 ghost use Rattle.representatives.specs.Representatives.{Writable, is_lowest, written_at, Representable, Represented};

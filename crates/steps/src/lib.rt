@@ -1,6 +1,7 @@
 // The steps file: the attribute and the step list that the program is given. A file is judged whole before its word, and its word
 // before its numbers. Parsing answers on every input, and a refusal writes nothing.
 #![tactic(auto)]
+
 ghost use Rattle.std.specs.Prelude.{◌≡◌, ◌≤◌, length, drop};
 ghost use Rattle.std.proofs.lemmas.List.Edits.{sets};
 ghost use Rattle.steps.specs.Lines.{lines, thresholds, StepLines};

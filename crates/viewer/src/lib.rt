@@ -1,5 +1,6 @@
 // The viewer: a row of the light residue map or of the dark one, uncopied.
 #![tactic(auto)]
+
 ghost use Rattle.std.specs.Prelude.{◌≡◌};
 ghost use Rattle.calls.specs.Judging.{verdict_of};
 ghost use Rattle.viewer.specs.View.{view_call, in_view, viewing_tests, viewed_part, viewed, viewed_numbers};

@@ -1,7 +1,5 @@
 -- What the visits ask and leave, on the lists that they are lent.
 use Rattle.std.specs.Prelude.{ℕ, ◌≤◌, ◌<◌, true, ◌&&◌, ◌||◌, List, ◌⊎◌, ◌≡◌, eqb, ltb, get_or, length}
-use Rattle.std.specs.Borrow.{Bor}
-use denote.Triple.Both.{Both}
 use Rattle.sets.specs.Sets.{Positions, count}
 use Rattle.grid.specs.Pixels.{pixels}
 use Rattle.grid.specs.Neighbours.{next_in_row, next_in_column, next_on_corner, adjacent}
@@ -11,20 +9,7 @@ use Rattle.levels.specs.Workspace.{Sized, number_at, order_of}
 use Rattle.flooding.specs.Flooding.{Sound, At}
 use Rattle.flooding.specs.Numbers.{Named}
 use Rattle.queues.specs.Marks.{Marked}
-use Rattle.queues.specs.Queues.{Lists, lists, numbers_of, state_of}
-
--- the lists that a function is lent, and what they are at its entry and at its exit
-abbrev Lent : Type 0
-Lent = Bor (List ℕ)
-
-abbrev pub held : Lent → Lent → Lent → Lent → Lists
-held ws heads tails opened = lists ws.now heads.now tails.now opened.now
-
-abbrev pub at_entry : Both Lent Lent → Both Lent Lent → Both Lent Lent → Both Lent Lent → Lists
-at_entry ws heads tails opened = held ws.entry heads.entry tails.entry opened.entry
-
-abbrev pub at_exit : Both Lent Lent → Both Lent Lent → Both Lent Lent → Both Lent Lent → Lists
-at_exit ws heads tails opened = held ws.exit heads.exit tails.exit opened.exit
+use Rattle.queues.specs.Queues.{Lists, numbers_of, state_of}
 
 -- the pixel at the head of level l
 abbrev pub head_pixel : ℕ → Lists → ℕ → ℕ

@@ -1,9 +1,11 @@
 // The visits: each neighbour of the pixel at the head of the current level that is not met is put into its queue, or takes the place at the
 // head. The flood moves on at once to a brighter one that was not met.
 #![tactic(auto)]
+
 ghost use Rattle.std.specs.Prelude.{◌≡◌, ◌%◌, ◌≤◌, ◌<◌, eqb};
 ghost use Rattle.levels.specs.Workspace.{Sized};
-ghost use Rattle.visits.specs.Visits.{held, at_entry, at_exit, Standing, Visiting, above, left_of, right_of, below};
+ghost use Rattle.queues.specs.Queues.{lists};
+ghost use Rattle.visits.specs.Visits.{Standing, Visiting, above, left_of, right_of, below};
 ghost use Rattle.visits.specs.Visits.{corners_above, corners_below, corners, Based, Visited, VisitedTo, met_test, MetBut, VisitedAround};
 
 use grid::Grid;
@@ -33,8 +35,8 @@ fn visit(
     tails: &mut [usize; 256],
     opened: &mut [usize; 262],
 ) -> usize
-    requires { Visiting grid picture.now (held ws heads tails opened) level p q }
-    ensures { VisitedTo grid picture.now (at_entry ws heads tails opened) (at_exit ws heads tails opened) level result p (eqb q) }
+    requires { Visiting grid picture.now (lists ws.old heads.now tails.old opened.old) level p q }
+    ensures { VisitedTo grid picture.now (lists ws.old heads.now tails.old opened.old) (lists ws.new heads.now tails.new opened.new) level result p (eqb q) }
 {
     let n = picture.len();
     if met(n, q, ws) {
@@ -64,8 +66,8 @@ fn visit_up(
     tails: &mut [usize; 256],
     opened: &mut [usize; 262],
 ) -> usize
-    requires { Standing grid picture.now (held ws heads tails opened) level p }
-    ensures { VisitedTo grid picture.now (at_entry ws heads tails opened) (at_exit ws heads tails opened) level result p (above grid p) }
+    requires { Standing grid picture.now (lists ws.old heads.now tails.old opened.old) level p }
+    ensures { VisitedTo grid picture.now (lists ws.old heads.now tails.old opened.old) (lists ws.new heads.now tails.new opened.new) level result p (above grid p) }
 {
     let width = grid.width as usize;
     if p < width {
@@ -85,8 +87,8 @@ fn visit_down(
     tails: &mut [usize; 256],
     opened: &mut [usize; 262],
 ) -> usize
-    requires { Standing grid picture.now (held ws heads tails opened) level p }
-    ensures { VisitedTo grid picture.now (at_entry ws heads tails opened) (at_exit ws heads tails opened) level result p (below grid p) }
+    requires { Standing grid picture.now (lists ws.old heads.now tails.old opened.old) level p }
+    ensures { VisitedTo grid picture.now (lists ws.old heads.now tails.old opened.old) (lists ws.new heads.now tails.new opened.new) level result p (below grid p) }
 {
     let width = grid.width as usize;
     if picture.len() - p <= width {
@@ -117,9 +119,9 @@ fn visit_left(
     tails: &mut [usize; 256],
     opened: &mut [usize; 262],
 ) -> usize
-    requires standing { Standing grid picture.now (held ws heads tails opened) level p }
+    requires standing { Standing grid picture.now (lists ws.old heads.now tails.old opened.old) level p }
     requires based { Based grid picture.now p base }
-    ensures { VisitedTo grid picture.now (at_entry ws heads tails opened) (at_exit ws heads tails opened) level result p (left_of grid base) }
+    ensures { VisitedTo grid picture.now (lists ws.old heads.now tails.old opened.old) (lists ws.new heads.now tails.new opened.new) level result p (left_of grid base) }
 {
     if base == 0 {
         return level;
@@ -145,9 +147,9 @@ fn visit_right(
     tails: &mut [usize; 256],
     opened: &mut [usize; 262],
 ) -> usize
-    requires standing { Standing grid picture.now (held ws heads tails opened) level p }
+    requires standing { Standing grid picture.now (lists ws.old heads.now tails.old opened.old) level p }
     requires based { Based grid picture.now p base }
-    ensures { VisitedTo grid picture.now (at_entry ws heads tails opened) (at_exit ws heads tails opened) level result p (right_of grid base) }
+    ensures { VisitedTo grid picture.now (lists ws.old heads.now tails.old opened.old) (lists ws.new heads.now tails.new opened.new) level result p (right_of grid base) }
 {
     let right = base + 1;
     if met(picture.len(), right, ws) {
@@ -170,9 +172,9 @@ fn visit_corners_above(
     tails: &mut [usize; 256],
     opened: &mut [usize; 262],
 ) -> usize
-    requires standing { Standing grid picture.now (held ws heads tails opened) level p }
+    requires standing { Standing grid picture.now (lists ws.old heads.now tails.old opened.old) level p }
     requires neighbours_value { grid.neighbours ≡ 8 }
-    ensures { Visited grid picture.now (at_entry ws heads tails opened) (at_exit ws heads tails opened) p result (corners_above grid p) }
+    ensures { Visited grid picture.now (lists ws.old heads.now tails.old opened.old) (lists ws.new heads.now tails.new opened.new) p result (corners_above grid p) }
 {
     let width = grid.width as usize;
     if p < width {
@@ -201,9 +203,9 @@ fn visit_corners_below(
     tails: &mut [usize; 256],
     opened: &mut [usize; 262],
 ) -> usize
-    requires standing { Standing grid picture.now (held ws heads tails opened) level p }
+    requires standing { Standing grid picture.now (lists ws.old heads.now tails.old opened.old) level p }
     requires neighbours_value { grid.neighbours ≡ 8 }
-    ensures { Visited grid picture.now (at_entry ws heads tails opened) (at_exit ws heads tails opened) p result (corners_below grid p) }
+    ensures { Visited grid picture.now (lists ws.old heads.now tails.old opened.old) (lists ws.new heads.now tails.new opened.new) p result (corners_below grid p) }
 {
     let width = grid.width as usize;
     if picture.len() - p <= width {
@@ -232,8 +234,8 @@ fn visit_corners(
     tails: &mut [usize; 256],
     opened: &mut [usize; 262],
 ) -> usize
-    requires { Standing grid picture.now (held ws heads tails opened) level p }
-    ensures { Visited grid picture.now (at_entry ws heads tails opened) (at_exit ws heads tails opened) p result (corners grid p) }
+    requires { Standing grid picture.now (lists ws.old heads.now tails.old opened.old) level p }
+    ensures { Visited grid picture.now (lists ws.old heads.now tails.old opened.old) (lists ws.new heads.now tails.new opened.new) p result (corners grid p) }
 {
     if grid.neighbours != 8 {
         return p;
@@ -257,9 +259,9 @@ fn visit_last(
     tails: &mut [usize; 256],
     opened: &mut [usize; 262],
 ) -> usize
-    requires standing { Standing grid picture.now (held ws heads tails opened) level p }
-    requires met_but { MetBut grid picture.now (held ws heads tails opened) p (right_of grid p) }
-    ensures { VisitedAround grid picture.now (at_entry ws heads tails opened) (at_exit ws heads tails opened) p result }
+    requires standing { Standing grid picture.now (lists ws.old heads.now tails.old opened.old) level p }
+    requires met_but { MetBut grid picture.now (lists ws.old heads.now tails.old opened.old) p (right_of grid p) }
+    ensures { VisitedAround grid picture.now (lists ws.old heads.now tails.old opened.old) (lists ws.new heads.now tails.new opened.new) p result }
 {
     let n = picture.len();
     let q = p + 1;
@@ -293,8 +295,8 @@ pub fn visit_around(
     tails: &mut [usize; 256],
     opened: &mut [usize; 262],
 ) -> usize
-    requires { Standing grid picture.now (held ws heads tails opened) level p }
-    ensures { VisitedAround grid picture.now (at_entry ws heads tails opened) (at_exit ws heads tails opened) p result }
+    requires { Standing grid picture.now (lists ws.old heads.now tails.old opened.old) level p }
+    ensures { VisitedAround grid picture.now (lists ws.old heads.now tails.old opened.old) (lists ws.new heads.now tails.new opened.new) p result }
 {
     let width = grid.width as usize;
     let up = visit_up(picture, grid, p, level, ws, heads, tails, opened);

@@ -8,12 +8,12 @@ use Rattle.pgm_header.proofs.gap_end.Goals as goal
 pub gap-preserved-in-White : goal.gap-preserved-in-White
 gap-preserved-in-White c =
     c.gap.invariant
-    ∙ gap_white _ _ c.if-file-at.false (sym c.sort.ensures ∙ c.enum_told-1.given.1)
+    ∙ gap_white _ _ c.if-file-at.false (sym c.sort.ensures ∙ c.in-White.is)
 
 pub loop-at-init : goal.loop-at-init
 loop-at-init c = (
   c.gap.invariant
-      ∙ gap_comment _ _ c.if-file-at.false (sym c.sort.ensures ∙ c.enum_told-in-Comment-1.given.1),
+      ∙ gap_comment _ _ c.if-file-at.false (sym c.sort.ensures ∙ c.in-Comment.is),
   omega arith,
 )
 
@@ -40,9 +40,9 @@ returns-then-file-at-2 c =
 pub returns-in-Digit : goal.returns-in-Digit
 returns-in-Digit c =
     sym (c.gap.invariant
-    ∙ gap_digit _ _ c.if-file-at.false (sym c.sort.ensures ∙ c.enum_told-in-Digit-1.given.1))
+    ∙ gap_digit _ _ c.if-file-at.false (sym c.sort.ensures ∙ c.in-Digit.is))
 
 pub returns-in-Foreign : goal.returns-in-Foreign
 returns-in-Foreign c =
     sym (c.gap.invariant
-    ∙ gap_foreign _ _ c.if-file-at.false (sym c.sort.ensures ∙ c.enum_told-in-Foreign-1.given.1))
+    ∙ gap_foreign _ _ c.if-file-at.false (sym c.sort.ensures ∙ c.in-Foreign.is))

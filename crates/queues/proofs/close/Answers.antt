@@ -17,8 +17,8 @@ pub returns-then-m-eq256 : goal.returns-then-m-eq256
 returns-then-m-eq256 c =
     inr (
       refl,
-      found_none c.open_below-m.ensures c.if-m-eq256.true c.pre.level,
-      shuts c.pre _ (omega arith) (omega arith),
+      found_none c.open_below-m.ensures c.if-m-eq256.true c.requires.level,
+      shuts c.requires _ (omega arith) (omega arith),
     )
 
 pub returns : goal.returns

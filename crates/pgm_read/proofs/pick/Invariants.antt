@@ -1,0 +1,12 @@
+-- The loop's invariant: the pictures from `at` on, the number that is left and what is held decide the answer. The measure is what is left
+-- of the file: a picture ends after it starts.
+use Prim.Native.Nat.{◌-◌}
+use lib.ListN.{length}
+use Rattle.pgm_read.proofs.Walk.{Walking}
+use Rattle.pgm_read.proofs.pick.Given as goal
+
+abbrev pub invariant-loop-width : goal.invariant-loop-width
+invariant-loop-width l = Walking l.file l.number l.at l.left l.held
+
+abbrev pub decreases-loop-width : goal.decreases-loop-width
+decreases-loop-width l = length l.file - l.at
