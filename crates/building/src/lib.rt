@@ -2,6 +2,7 @@
 // the nodes, parts 4 to 7 scratch. The flood gives the nodes numbers, and the passes make the record of the words of the nodes. The calls are
 // in the crates above.
 #![tactic(auto)]
+
 ghost use Rattle.std.specs.Prelude.{◌++◌, ◌≡◌, ◌+◌, ◌-◌, ◌*◌, ◌≤◌, length, take, replicate};
 ghost use Rattle.levels.specs.Workspace.{Sized};
 ghost use Rattle.building.specs.Building.{Buildable, Flooded, Measured, Recordable, Recorded, Whole};

@@ -1,8 +1,6 @@
 -- What the calls on a picture answer and write. A picture is the list of its greys by position; what is lent comes in as a list, and
 -- a refused call leaves it as it was.
 use Rattle.std.specs.Prelude.{ℕ, List, [], ◌∷◌, ◌++◌, length}
-use Rattle.std.specs.Borrow.{Bor}
-use denote.Triple.Both.{Both}
 use Rattle.sets.specs.Sets.{table, member}
 use Rattle.grid.specs.Pixels.{pixels}
 use Rattle.grid.specs.Neighbours.{adjacent}
@@ -56,10 +54,6 @@ abbrev pub after : {E : Type 0} → Verdict → List E → List E → List E
 after Accepted written lent = written
 after (Refused cause) written lent = lent
 
--- a slice that a function is lent, in its contract
-abbrev pub Lent : Type 0 → Type 0
-Lent E = Both (Bor (List ℕ)) E
-
 -- Building: what a call names and is lent.
 pub record BuildCall : Type 0 where
   pub picture : List ℕ
@@ -68,9 +62,9 @@ pub record BuildCall : Type 0 where
   pub workspace : List ℕ
 
 -- the same from the parameters of a function, by what they hold at entry
-abbrev pub build_call : {E F : Type 0} → Lent E → Grid → ℕ → Lent F → BuildCall
+abbrev pub build_call : List ℕ → Grid → ℕ → List ℕ → BuildCall
 build_call picture grid attribute workspace =
-    record { picture = picture.entry.now; grid = grid; attribute = attribute; workspace = workspace.entry.now }
+    record { picture = picture; grid = grid; attribute = attribute; workspace = workspace }
 
 -- its tests, in order
 abbrev pub build_tests : BuildCall → List Test
@@ -114,9 +108,9 @@ abbrev pub opening_of : List ℕ → Grid → Step → List ℕ → List ℕ →
 opening_of picture grid step workspace output =
     record { picture = picture; grid = grid; step = step; workspace = workspace; output = output }
 
-abbrev pub open_call : {E F G : Type 0} → Lent E → Grid → Step → Lent F → Lent G → OpenCall
+abbrev pub open_call : List ℕ → Grid → Step → List ℕ → List ℕ → OpenCall
 open_call picture grid step workspace output =
-    opening_of picture.entry.now grid step workspace.entry.now output.entry.now
+    opening_of picture grid step workspace output
 
 -- its tests, in order; the verdict is its answer
 abbrev pub open_tests : OpenCall → List Test
@@ -163,17 +157,17 @@ mapping_of picture grid kind steps gap workspace residue index =
       index = index;
     }
 
-abbrev pub map_call : {E F G H I : Type 0} → Lent E → Grid → Kind → Lent F → ℕ → Lent G → Lent H → Lent I → MapCall
+abbrev pub map_call : List ℕ → Grid → Kind → List ℕ → ℕ → List ℕ → List ℕ → List ℕ → MapCall
 map_call picture grid kind steps gap workspace residue index =
     mapping_of
-    picture.entry.now
+    picture
     grid
     kind
-    steps.entry.now
+    steps
     gap
-    workspace.entry.now
-    residue.entry.now
-    index.entry.now
+    workspace
+    residue
+    index
 
 -- its tests, in order; the verdict is its answer
 abbrev pub map_tests : MapCall → List Test

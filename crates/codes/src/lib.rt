@@ -1,5 +1,6 @@
 // The 64 bits that a call of the C interface answers, from the number and the value of its answer.
 #![tactic(auto)]
+
 ghost use Rattle.std.specs.Prelude.{◌≡◌, [], ◌∷◌};
 ghost use Rattle.causes.specs.Causes.{number_of};
 ghost use Rattle.codes.specs.Codes.{code_of};

@@ -1,6 +1,7 @@
 // Dark floc on light water: the dark map call and the combined map call. Dark maps are the light ones of the reversed picture, whose bytes stand in the
 // lent residue map until the maps are made of the pairs; so the calls need no memory beyond what they are lent.
 #![tactic(auto)]
+
 ghost use Rattle.std.specs.Prelude.{ℕ, ◌≡◌, length, get_or};
 ghost use Rattle.sets.specs.Sets.{table};
 ghost use Rattle.calls.specs.Judging.{verdict_numbers};
@@ -71,10 +72,10 @@ pub fn dark_map(
     index: &mut [u16],
 ) -> calls::Verdict
     ensures answer { verdict_numbers result ≡
-        verdict_numbers (map_verdict (reversed_call (map_call picture grid kind steps gap workspace residue index))) }
-    ensures workspace { workspace.new ≡ map_workspace (reversed_call (map_call picture grid kind steps gap workspace residue index)) }
-    ensures residue { residue.new ≡ map_residue (reversed_call (map_call picture grid kind steps gap workspace residue index)) }
-    ensures index { index.new ≡ map_index (reversed_call (map_call picture grid kind steps gap workspace residue index)) }
+        verdict_numbers (map_verdict (reversed_call (map_call picture.now grid kind steps.now gap workspace.old residue.old index.old))) }
+    ensures workspace { workspace.new ≡ map_workspace (reversed_call (map_call picture.now grid kind steps.now gap workspace.old residue.old index.old)) }
+    ensures residue { residue.new ≡ map_residue (reversed_call (map_call picture.now grid kind steps.now gap workspace.old residue.old index.old)) }
+    ensures index { index.new ≡ map_index (reversed_call (map_call picture.now grid kind steps.now gap workspace.old residue.old index.old)) }
 {
     let verdict = calls::judge_sizing(
         grid,
@@ -114,15 +115,15 @@ pub fn combined_map(
     contrast: &mut [i16],
 ) -> calls::Verdict
     ensures answer { verdict_numbers result ≡
-        verdict_numbers (combined_verdict (map_call picture grid kind steps gap workspace residue index) contrast.old) }
+        verdict_numbers (combined_verdict (map_call picture.now grid kind steps.now gap workspace.old residue.old index.old) contrast.old) }
     ensures workspace { workspace.new ≡
-        combined_workspace (map_call picture grid kind steps gap workspace residue index) contrast.old }
+        combined_workspace (map_call picture.now grid kind steps.now gap workspace.old residue.old index.old) contrast.old }
     ensures residue { residue.new ≡
-        combined_residue (map_call picture grid kind steps gap workspace residue index) contrast.old }
+        combined_residue (map_call picture.now grid kind steps.now gap workspace.old residue.old index.old) contrast.old }
     ensures index { index.new ≡
-        combined_index (map_call picture grid kind steps gap workspace residue index) contrast.old }
+        combined_index (map_call picture.now grid kind steps.now gap workspace.old residue.old index.old) contrast.old }
     ensures contrast { contrast.new ≡
-        combined_contrast (map_call picture grid kind steps gap workspace residue index) contrast.old }
+        combined_contrast (map_call picture.now grid kind steps.now gap workspace.old residue.old index.old) contrast.old }
 {
     let sizing = calls::judge_sizing(
         grid,

@@ -1,5 +1,6 @@
 // The pass over the descendants of the nodes: each node's accumulator is added to its parent's, and the attribute is read from it.
 #![tactic(auto)]
+
 ghost use Rattle.std.specs.Prelude.{◌≡◌};
 ghost use Rattle.descendants.specs.Pouring.{Pour, poured_at, Pourable, Poured};
 

@@ -6,6 +6,7 @@
 // 0 where no residue is. As there are at most 256 steps and greys, a pair has 16 bits; a node that never falls has 512 for its place, beyond
 // every step and gap. The time grows neither with the number of steps nor with the gap.
 #![tactic(auto)]
+
 ghost use Rattle.std.specs.Prelude.{◌≡◌, cond, ℕ, ◌≤◌, ◌<◌, ltb, length, get_or};
 ghost use Rattle.sets.specs.Sets.{table};
 ghost use Rattle.causes.specs.Bounds.{most_steps, most_gap};

@@ -8,7 +8,7 @@ use lib.ListN.{length, set, length-set}
 use lib.Seq.{get_or-set_same, get_or-set_other}
 use Rattle.sets.proofs.Tests.{last_or_below}
 use Rattle.calls.specs.Calls.{grey}
-use Rattle.openings.specs.Climbing.{parent, attribute, Representative, Climbable, LowestFirst, From, Kept, kept, root, up, OpenedTo, Pass}
+use Rattle.openings.specs.Climbing.{parent, attribute, Representative, Climbable, From, Kept, kept, root, up, OpenedTo, Pass}
 
 module _ (picture words : List ℕ) (n r : ℕ) (from : From picture words n r) (higher : parent words r ≡ r → ⊥) where
   -- the parent of a node that is not the root
@@ -33,11 +33,10 @@ module _ (picture words : List ℕ) (n t : ℕ) where
   kept_within (up gone rest) zero more = absurd (omega arith)
   kept_within (up gone rest) (suc l) more = up gone (kept_within rest l (omega arith))
 
-  pub pass_start : (output : List ℕ) → Climbable picture words n → LowestFirst words n → length output ≡ n → 0 < t → Pass picture words n t 0 output
-  pass_start output climbable lowest entries positive =
+  pub pass_start : (output : List ℕ) → Climbable picture words n → length output ≡ n → 0 < t → Pass picture words n t 0 output
+  pass_start output climbable entries positive =
       record {
         climbable = climbable;
-        lowest = lowest;
         positive = positive;
         entries = entries;
         reached = omega arith;
@@ -75,14 +74,13 @@ module _ (picture words : List ℕ) (n t : ℕ) where
 
     -- where it is not, the pixel is a representative
     pub pass_from : p ≤ parent words p → From picture words n p
-    pass_from later = from_itself (λ none. omega (arith, pass.lowest p below none))
+    pass_from later = from_itself (λ none. omega (arith, pass.climbable.lowest p below none))
 
     pub pass_more : (v : ℕ) → OpenedTo picture words n t p v → Pass picture words n t (p + 1) (set output p v)
     pass_more v found =
         let within : p < length output = omega (arith, pass.entries) in
         record {
           climbable = pass.climbable;
-          lowest = pass.lowest;
           positive = pass.positive;
           entries = simp length-set pass.entries;
           reached = omega arith;

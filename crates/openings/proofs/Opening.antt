@@ -37,17 +37,14 @@ use Rattle.map_passes.specs.Settle.{total_in}
 use Rattle.map_passes.specs.Passes.{pair_for, RightPairs}
 use Rattle.sizing.specs.Sizing.{Sizeable, NodePairs}
 use Rattle.sizing.proofs.Mapping.{hold_asks}
-use Rattle.openings.specs.Climbing.{Climbable, LowestFirst, OpenedBefore}
+use Rattle.openings.specs.Climbing.{Climbable, OpenedBefore}
 use Rattle.openings.specs.Opening.{Openable, Fallen, less_its_fall}
-use Rattle.openings.proofs.Record.{record_climbable, record_lowest, pass_opened}
+use Rattle.openings.proofs.Record.{record_climbable, pass_opened}
 
 module _ (grid : Grid) (a : ℕ) (picture : List ℕ) where
   pub record_of_climbable : length picture ≡ pixels grid → Climbable picture (record_of grid a picture) (pixels grid)
   record_of_climbable size =
       record_climbable (pixels grid) (adjacent grid) (adjacent_symmetric grid) (attribute grid a) (attribute_some grid a) picture size
-
-  pub record_of_lowest : LowestFirst (record_of grid a picture) (pixels grid)
-  record_of_lowest = record_lowest (pixels grid) (adjacent grid) (adjacent_symmetric grid) (attribute grid a) (attribute_some grid a) picture
 
   pub pass_opens : Bounded grid.width grid.height → (t : ℕ) (output : List ℕ) → length output ≡ pixels grid
       → OpenedBefore picture (record_of grid a picture) (pixels grid) t (pixels grid) output
@@ -74,12 +71,10 @@ module _ {grid : Grid} {a t : ℕ} {picture lent output : List ℕ} (asks : Open
   fits = bounded grid.width grid.height asks.buildable.sides
 
   pub pass_asks : {ws : List ℕ} → ws ≡ record_of grid a picture
-      → Climbable picture ws (length picture) × (LowestFirst ws (length picture) × ((length output ≡ length picture) × (0 < t)))
+      → Climbable picture ws (length picture) × ((length output ≡ length picture) × (0 < t))
   pass_asks built =
-      let bytes = asks.buildable.bytes in (
-        rw (built, bytes) (record_of_climbable grid a picture bytes),
-        (rw (built, bytes) (record_of_lowest grid a picture), (asks.entries ∙ sym bytes, threshold_some t asks.good)),
-      )
+      let bytes = asks.buildable.bytes in
+      (rw (built, bytes) (record_of_climbable grid a picture bytes), (asks.entries ∙ sym bytes, threshold_some t asks.good))
 
   pub opened_at : {ws written : List ℕ} → ws ≡ record_of grid a picture → length written ≡ length output
       → OpenedBefore picture ws (length picture) t (length picture) written

@@ -22,7 +22,7 @@ use Rattle.tree.proofs.Climb.{opened_own, opened_parent, opened_node, opened_roo
 use Rattle.tree.proofs.Words.{Positive, length_workspace, parent_at, attribute_at}
 use Rattle.tree.proofs.Reading.{Reading, Self, Up, at_pixel, at_unmarked, at_representative, leads_self, leads_marked, leads_up}
 use Rattle.calls.specs.Calls.{grey}
-use Rattle.openings.specs.Climbing.{parent, attribute, Climbable, LowestFirst, Kept, kept, root, up, OpenedTo, OpenedBefore}
+use Rattle.openings.specs.Climbing.{parent, attribute, Climbable, Kept, kept, root, up, OpenedTo, OpenedBefore}
 
 module _ (n : ℕ) (adj : Adjacency) (symm : Symmetric adj) (attr : Positions → ℕ) (some : Positive n attr) (picture : List ℕ) where
   -- the record's words
@@ -40,10 +40,10 @@ module _ (n : ℕ) (adj : Adjacency) (symm : Symmetric adj) (attr : Positions �
         within = λ p b. (leads_self symm some reading p b).0;
         leads = λ p b none. omega (arith, leads_marked symm some reading p b);
         falls = λ p b marked. ⊎_elim (λ next. inr next.darker) (λ top. inl top.1) (leads_up symm some reading p b (omega arith));
+        lowest = λ p b none.
+            let other = at_unmarked symm some reading p b none in
+            omega (arith, other.lower, other.is_own);
       }
-
-  pub record_lowest : LowestFirst record_words n
-  record_lowest p b none = let other = at_unmarked symm some reading p b none in omega (arith, other.lower, other.is_own)
 
   module _ (increasing : Increasing n attr)
       (whole : (p q : ℕ) → p < n → q < n → Together n adj (grey picture) (least_grey n (grey picture)) p q) (t : ℕ) where

@@ -1,8 +1,6 @@
 -- Climbing in a tree record, by its words alone: what the record must be like, and which grey a climb finds. The words are parents and
--- attributes, whichever own pixels stand for the nodes. The pass over the positions asks that they are the lowest, so that the new grey of a
--- representative is there before those of its node's other own pixels.
+-- attributes; a representative is the lowest own pixel, so that its new grey is there before those of the others.
 use Rattle.std.specs.Prelude.{ℕ, suc, ◌+◌, ◌≤◌, ◌<◌, List, ◌⊎◌, ◌≡◌, length, get_or}
-use Rattle.tree.specs.Tree.{longest_climb}
 use Rattle.calls.specs.Calls.{grey}
 
 -- "Part 1 (n words) holds parents"
@@ -26,10 +24,8 @@ pub record Climbable (picture words : List ℕ) (n : ℕ) : Type 0 where
   pub leads : (p : ℕ) → p < n → Representative words n (parent words p)
   -- "Levels fall strictly on the way up"
   pub falls : (p : ℕ) → p < n → Representative words n p → (parent words p ≡ p) ⊎ (grey picture (parent words p) < grey picture p)
-
--- "A node's representative is its own pixel of lowest position."
-abbrev pub LowestFirst : List ℕ → ℕ → Type 0
-LowestFirst words n = (p : ℕ) → p < n → attribute words n p ≡ 0 → parent words p < p
+  -- a representative has the lowest position of its node's own pixels
+  pub lowest : (p : ℕ) → p < n → attribute words n p ≡ 0 → parent words p < p
 
 -- a climb starts at a representative
 pub record From (picture words : List ℕ) (n r : ℕ) : Type 0 where
@@ -43,6 +39,10 @@ pub data Kept (picture words : List ℕ) (n t : ℕ) : ℕ → ℕ → ℕ → T
   kept : {k r : ℕ} → t ≤ attribute words n r → Kept picture words n t k r (grey picture r)
   root : {k r : ℕ} → parent words r ≡ r → Kept picture words n t k r (grey picture r)
   up : {k r v : ℕ} → attribute words n r < t → Kept picture words n t k (parent words r) v → Kept picture words n t (suc k) r v
+
+-- "a climb has at most 255 steps"
+abbrev pub longest_climb : ℕ
+longest_climb = 255
 
 -- the grey v is found by a climb from the representative r, with no more steps than its level counts
 pub record ClimbsTo (picture words : List ℕ) (n t r v : ℕ) : Type 0 where
@@ -65,7 +65,6 @@ AllOpened picture words t output = OpenedBefore picture words (length picture) t
 -- the pass over the positions, with a threshold above 0, has come to k
 pub record Pass (picture words : List ℕ) (n t k : ℕ) (output : List ℕ) : Type 0 where
   pub climbable : Climbable picture words n
-  pub lowest : LowestFirst words n
   pub positive : 0 < t
   pub entries : length output ≡ n
   pub reached : k ≤ n

@@ -2,13 +2,14 @@
 // fall, whichever own pixels stand for the nodes; the pass over the pixels asks that they are the lowest. By a triple, whose heights and widths the
 // record does not have, each pixel loses what its node falls along the list of that one step, as the maps find it.
 #![tactic(auto)]
+
 ghost use Rattle.std.specs.Prelude.{ℕ, ◌<◌, ◌≡◌, length};
 ghost use Rattle.sets.specs.Sets.{table};
 ghost use Rattle.calls.specs.Steps.{step_test, step_attribute};
 ghost use Rattle.calls.specs.Judging.{verdict_numbers};
 ghost use Rattle.calls.specs.Calls.{grey, record_of, opened_picture, open_call, open_verdict, open_workspace, open_output};
 ghost use Rattle.calls.specs.declared.Step.TheVariants.{Threshold, Three};
-ghost use Rattle.openings.specs.Climbing.{Climbable, LowestFirst, From, Kept, OpenedTo, AllOpened, Pass};
+ghost use Rattle.openings.specs.Climbing.{Climbable, From, Kept, OpenedTo, AllOpened, Pass};
 ghost use Rattle.openings.specs.Opening.{Openable, Fallen, less_its_fall};
 
 use calls::Step;
@@ -52,7 +53,6 @@ fn new_grey(picture: &[u8], words: &[u32], n: usize, p: usize, threshold: u32, o
 // Writes every new grey, in order of position.
 fn open_record(picture: &[u8], words: &[u32], threshold: u32, output: &mut [u8])
     requires climbable { Climbable picture.now words.now (length picture.now) }
-    requires lowest_first { LowestFirst words.now (length picture.now) }
     requires output_len { length output.old ≡ length picture.now }
     requires threshold_nonzero { 0 < threshold }
     ensures { AllOpened picture.now words.now threshold output.new }
@@ -137,9 +137,9 @@ pub fn open(
     workspace: &mut [u32],
     output: &mut [u8],
 ) -> calls::Verdict
-    ensures answer { verdict_numbers result ≡ verdict_numbers (open_verdict (open_call picture grid step workspace output)) }
-    ensures workspace { workspace.new ≡ open_workspace (open_call picture grid step workspace output) }
-    ensures output { output.new ≡ open_output (open_call picture grid step workspace output) }
+    ensures answer { verdict_numbers result ≡ verdict_numbers (open_verdict (open_call picture.now grid step workspace.old output.old)) }
+    ensures workspace { workspace.new ≡ open_workspace (open_call picture.now grid step workspace.old output.old) }
+    ensures output { output.new ≡ open_output (open_call picture.now grid step workspace.old output.old) }
 {
     let named = calls::judge_picture(grid, picture.len(), calls::step_attribute(step));
     let by_step = calls::also(named, calls::step_good(step), Cause::Steps);

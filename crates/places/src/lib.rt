@@ -1,6 +1,7 @@
 // Where nodes fall along a list of thresholds: the search for a threshold, with a table of what it finds for small attributes, and the pass
 // that lowers the place words of the nodes to what it finds. Where several lists of thresholds apply, a pass for each leaves the least place.
 #![tactic(auto)]
+
 ghost use Rattle.std.specs.Prelude.{true, ◌≡◌, min};
 ghost use Rattle.opening.specs.Residue.{not_falling};
 ghost use Rattle.falls.specs.Falls.{places_before};

@@ -2,6 +2,7 @@
 // word, which starts at the number of steps and is lowered by each list of thresholds that applies: one for thresholds of an attribute; for triples
 // three, one a part, since a node meets a triple if it meets all three.
 #![tactic(auto)]
+
 ghost use Rattle.std.specs.Prelude.{true, ◌≡◌, ◌≤◌, ◌<◌, ◌*◌, length};
 ghost use Rattle.causes.specs.Bounds.{most_steps};
 ghost use Rattle.levels.specs.Workspace.{Sized};

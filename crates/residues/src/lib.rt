@@ -1,5 +1,6 @@
 // The map call: the residue map and the index map of a picture for a list of steps of either kind and a gap.
 #![tactic(auto)]
+
 ghost use Rattle.std.specs.Prelude.{◌≡◌};
 ghost use Rattle.calls.specs.Judging.{verdict_numbers};
 ghost use Rattle.calls.specs.Calls.{map_call, map_verdict, map_workspace, map_residue, map_index};
@@ -19,10 +20,10 @@ pub fn map(
     residue: &mut [u8],
     index: &mut [u16],
 ) -> calls::Verdict
-    ensures answer { verdict_numbers result ≡ verdict_numbers (map_verdict (map_call picture grid kind steps gap workspace residue index)) }
-    ensures workspace { workspace.new ≡ map_workspace (map_call picture grid kind steps gap workspace residue index) }
-    ensures residue { residue.new ≡ map_residue (map_call picture grid kind steps gap workspace residue index) }
-    ensures index { index.new ≡ map_index (map_call picture grid kind steps gap workspace residue index) }
+    ensures answer { verdict_numbers result ≡ verdict_numbers (map_verdict (map_call picture.now grid kind steps.now gap workspace.old residue.old index.old)) }
+    ensures workspace { workspace.new ≡ map_workspace (map_call picture.now grid kind steps.now gap workspace.old residue.old index.old) }
+    ensures residue { residue.new ≡ map_residue (map_call picture.now grid kind steps.now gap workspace.old residue.old index.old) }
+    ensures index { index.new ≡ map_index (map_call picture.now grid kind steps.now gap workspace.old residue.old index.old) }
 {
     let verdict = calls::judge_sizing(
         grid,

@@ -1,6 +1,7 @@
 // Sizing a picture for a list of steps of either kind and a gap: the pairs of its nodes, and those of its pixels, of which the maps are made. The
 // calls are in the crates above.
 #![tactic(auto)]
+
 ghost use Rattle.std.specs.Prelude.{◌≡◌, length};
 ghost use Rattle.grid.specs.Pixels.{pixels};
 ghost use Rattle.calls.specs.Steps.{list_tests};

@@ -68,8 +68,8 @@ pub extern "C" fn teldruf_build(
     neighbours: u32,
     workspace: &mut [u32],
 ) -> u64
-    ensures answer { result ≡ code_of (built_numbers (built (build_by picture width height attribute neighbours workspace))) }
-    ensures workspace { workspace.new ≡ build_workspace (build_by picture width height attribute neighbours workspace) }
+    ensures answer { result ≡ code_of (built_numbers (built (build_by picture.now width height attribute neighbours workspace.old))) }
+    ensures workspace { workspace.new ≡ build_workspace (build_by picture.now width height attribute neighbours workspace.old) }
 {
     match max_tree::build(
         picture,
@@ -98,9 +98,9 @@ pub extern "C" fn teldruf_open(
     workspace: &mut [u32],
     output: &mut [u8],
 ) -> u64
-    ensures answer { result ≡ code_of (verdict_numbers (open_verdict (open_by picture width height attribute neighbours threshold workspace output))) }
-    ensures workspace { workspace.new ≡ open_workspace (open_by picture width height attribute neighbours threshold workspace output) }
-    ensures output { output.new ≡ open_output (open_by picture width height attribute neighbours threshold workspace output) }
+    ensures answer { result ≡ code_of (verdict_numbers (open_verdict (open_by picture.now width height attribute neighbours threshold workspace.old output.old))) }
+    ensures workspace { workspace.new ≡ open_workspace (open_by picture.now width height attribute neighbours threshold workspace.old output.old) }
+    ensures output { output.new ≡ open_output (open_by picture.now width height attribute neighbours threshold workspace.old output.old) }
 {
     match openings::open(
         picture,
@@ -131,9 +131,9 @@ pub extern "C" fn teldruf_open_triple(
     workspace: &mut [u32],
     output: &mut [u8],
 ) -> u64
-    ensures answer { result ≡ code_of (verdict_numbers (open_verdict (open_triple_by picture width height neighbours area rows columns workspace output))) }
-    ensures workspace { workspace.new ≡ open_workspace (open_triple_by picture width height neighbours area rows columns workspace output) }
-    ensures output { output.new ≡ open_output (open_triple_by picture width height neighbours area rows columns workspace output) }
+    ensures answer { result ≡ code_of (verdict_numbers (open_verdict (open_triple_by picture.now width height neighbours area rows columns workspace.old output.old))) }
+    ensures workspace { workspace.new ≡ open_workspace (open_triple_by picture.now width height neighbours area rows columns workspace.old output.old) }
+    ensures output { output.new ≡ open_output (open_triple_by picture.now width height neighbours area rows columns workspace.old output.old) }
 {
     match openings::open(
         picture,
@@ -169,10 +169,10 @@ pub extern "C" fn teldruf_map(
     residue: &mut [u8],
     index: &mut [u16],
 ) -> u64
-    ensures answer { result ≡ code_of (verdict_numbers (map_verdict (map_by picture width height attribute neighbours steps gap workspace residue index))) }
-    ensures workspace { workspace.new ≡ map_workspace (map_by picture width height attribute neighbours steps gap workspace residue index) }
-    ensures residue { residue.new ≡ map_residue (map_by picture width height attribute neighbours steps gap workspace residue index) }
-    ensures index { index.new ≡ map_index (map_by picture width height attribute neighbours steps gap workspace residue index) }
+    ensures answer { result ≡ code_of (verdict_numbers (map_verdict (map_by picture.now width height attribute neighbours steps.now gap workspace.old residue.old index.old))) }
+    ensures workspace { workspace.new ≡ map_workspace (map_by picture.now width height attribute neighbours steps.now gap workspace.old residue.old index.old) }
+    ensures residue { residue.new ≡ map_residue (map_by picture.now width height attribute neighbours steps.now gap workspace.old residue.old index.old) }
+    ensures index { index.new ≡ map_index (map_by picture.now width height attribute neighbours steps.now gap workspace.old residue.old index.old) }
 {
     match residues::map(
         picture,
@@ -206,10 +206,10 @@ pub extern "C" fn teldruf_map_triples(
     residue: &mut [u8],
     index: &mut [u16],
 ) -> u64
-    ensures answer { result ≡ code_of (verdict_numbers (map_verdict (triples_by picture width height neighbours steps gap workspace residue index))) }
-    ensures workspace { workspace.new ≡ map_workspace (triples_by picture width height neighbours steps gap workspace residue index) }
-    ensures residue { residue.new ≡ map_residue (triples_by picture width height neighbours steps gap workspace residue index) }
-    ensures index { index.new ≡ map_index (triples_by picture width height neighbours steps gap workspace residue index) }
+    ensures answer { result ≡ code_of (verdict_numbers (map_verdict (triples_by picture.now width height neighbours steps.now gap workspace.old residue.old index.old))) }
+    ensures workspace { workspace.new ≡ map_workspace (triples_by picture.now width height neighbours steps.now gap workspace.old residue.old index.old) }
+    ensures residue { residue.new ≡ map_residue (triples_by picture.now width height neighbours steps.now gap workspace.old residue.old index.old) }
+    ensures index { index.new ≡ map_index (triples_by picture.now width height neighbours steps.now gap workspace.old residue.old index.old) }
 {
     match residues::map(
         picture,
@@ -245,13 +245,13 @@ pub extern "C" fn teldruf_dark_map(
     index: &mut [u16],
 ) -> u64
     ensures answer { result ≡
-        code_of (verdict_numbers (map_verdict (reversed_call (map_by picture width height attribute neighbours steps gap workspace residue index)))) }
+        code_of (verdict_numbers (map_verdict (reversed_call (map_by picture.now width height attribute neighbours steps.now gap workspace.old residue.old index.old)))) }
     ensures workspace { workspace.new ≡
-        map_workspace (reversed_call (map_by picture width height attribute neighbours steps gap workspace residue index)) }
+        map_workspace (reversed_call (map_by picture.now width height attribute neighbours steps.now gap workspace.old residue.old index.old)) }
     ensures residue { residue.new ≡
-        map_residue (reversed_call (map_by picture width height attribute neighbours steps gap workspace residue index)) }
+        map_residue (reversed_call (map_by picture.now width height attribute neighbours steps.now gap workspace.old residue.old index.old)) }
     ensures index { index.new ≡
-        map_index (reversed_call (map_by picture width height attribute neighbours steps gap workspace residue index)) }
+        map_index (reversed_call (map_by picture.now width height attribute neighbours steps.now gap workspace.old residue.old index.old)) }
 {
     match dark::dark_map(
         picture,
@@ -286,13 +286,13 @@ pub extern "C" fn teldruf_dark_map_triples(
     index: &mut [u16],
 ) -> u64
     ensures answer { result ≡
-        code_of (verdict_numbers (map_verdict (reversed_call (triples_by picture width height neighbours steps gap workspace residue index)))) }
+        code_of (verdict_numbers (map_verdict (reversed_call (triples_by picture.now width height neighbours steps.now gap workspace.old residue.old index.old)))) }
     ensures workspace { workspace.new ≡
-        map_workspace (reversed_call (triples_by picture width height neighbours steps gap workspace residue index)) }
+        map_workspace (reversed_call (triples_by picture.now width height neighbours steps.now gap workspace.old residue.old index.old)) }
     ensures residue { residue.new ≡
-        map_residue (reversed_call (triples_by picture width height neighbours steps gap workspace residue index)) }
+        map_residue (reversed_call (triples_by picture.now width height neighbours steps.now gap workspace.old residue.old index.old)) }
     ensures index { index.new ≡
-        map_index (reversed_call (triples_by picture width height neighbours steps gap workspace residue index)) }
+        map_index (reversed_call (triples_by picture.now width height neighbours steps.now gap workspace.old residue.old index.old)) }
 {
     match dark::dark_map(
         picture,
@@ -329,15 +329,15 @@ pub extern "C" fn teldruf_combined_map(
     contrast: &mut [i16],
 ) -> u64
     ensures answer { result ≡ code_of (verdict_numbers
-        (combined_verdict (map_by picture width height attribute neighbours steps gap workspace residue index) contrast.old)) }
+        (combined_verdict (map_by picture.now width height attribute neighbours steps.now gap workspace.old residue.old index.old) contrast.old)) }
     ensures workspace { workspace.new ≡
-        combined_workspace (map_by picture width height attribute neighbours steps gap workspace residue index) contrast.old }
+        combined_workspace (map_by picture.now width height attribute neighbours steps.now gap workspace.old residue.old index.old) contrast.old }
     ensures residue { residue.new ≡
-        combined_residue (map_by picture width height attribute neighbours steps gap workspace residue index) contrast.old }
+        combined_residue (map_by picture.now width height attribute neighbours steps.now gap workspace.old residue.old index.old) contrast.old }
     ensures index { index.new ≡
-        combined_index (map_by picture width height attribute neighbours steps gap workspace residue index) contrast.old }
+        combined_index (map_by picture.now width height attribute neighbours steps.now gap workspace.old residue.old index.old) contrast.old }
     ensures contrast { contrast.new ≡
-        combined_contrast (map_by picture width height attribute neighbours steps gap workspace residue index) contrast.old }
+        combined_contrast (map_by picture.now width height attribute neighbours steps.now gap workspace.old residue.old index.old) contrast.old }
 {
     match dark::combined_map(
         picture,
@@ -374,15 +374,15 @@ pub extern "C" fn teldruf_combined_map_triples(
     contrast: &mut [i16],
 ) -> u64
     ensures answer { result ≡ code_of (verdict_numbers
-        (combined_verdict (triples_by picture width height neighbours steps gap workspace residue index) contrast.old)) }
+        (combined_verdict (triples_by picture.now width height neighbours steps.now gap workspace.old residue.old index.old) contrast.old)) }
     ensures workspace { workspace.new ≡
-        combined_workspace (triples_by picture width height neighbours steps gap workspace residue index) contrast.old }
+        combined_workspace (triples_by picture.now width height neighbours steps.now gap workspace.old residue.old index.old) contrast.old }
     ensures residue { residue.new ≡
-        combined_residue (triples_by picture width height neighbours steps gap workspace residue index) contrast.old }
+        combined_residue (triples_by picture.now width height neighbours steps.now gap workspace.old residue.old index.old) contrast.old }
     ensures index { index.new ≡
-        combined_index (triples_by picture width height neighbours steps gap workspace residue index) contrast.old }
+        combined_index (triples_by picture.now width height neighbours steps.now gap workspace.old residue.old index.old) contrast.old }
     ensures contrast { contrast.new ≡
-        combined_contrast (triples_by picture width height neighbours steps gap workspace residue index) contrast.old }
+        combined_contrast (triples_by picture.now width height neighbours steps.now gap workspace.old residue.old index.old) contrast.old }
 {
     match dark::combined_map(
         picture,
@@ -414,7 +414,7 @@ pub extern "C" fn teldruf_view_row(
     row: u32,
     side: u32,
 ) -> u64
-    ensures answer { result ≡ code_of (viewed_numbers (viewed (view_call light dark width height row side))) }
+    ensures answer { result ≡ code_of (viewed_numbers (viewed (view_call light.now dark.now width height row side))) }
 {
     match viewer::view_start(light, dark, width, height, row, side) {
         viewer::Viewed::Start(start) => start as u64,

@@ -6,7 +6,7 @@ use Rattle.causes.specs.Sides.{sides_fit}
 use Rattle.causes.specs.declared.Cause.{Cause}
 use Rattle.causes.specs.declared.Cause.TheVariants.{Sides, Output, View}
 use Rattle.calls.specs.Judging.{Test, verdict_of}
-use Rattle.calls.specs.Calls.{Lent, after}
+use Rattle.calls.specs.Calls.{after}
 use Rattle.calls.specs.declared.Verdict.{Verdict}
 use Rattle.calls.specs.declared.Verdict.TheVariants.{Accepted, Refused}
 use Rattle.viewer.specs.declared.Viewed.{Viewed}
@@ -22,9 +22,9 @@ pub record ViewCall : Type 0 where
   pub side : ℕ
 
 -- the same from the parameters of a function, by what they hold at entry
-abbrev pub view_call : {E F : Type 0} → Lent E → Lent F → ℕ → ℕ → ℕ → ℕ → ViewCall
+abbrev pub view_call : List ℕ → List ℕ → ℕ → ℕ → ℕ → ℕ → ViewCall
 view_call light dark width height row side =
-    record { light = light.entry.now; dark = dark.entry.now; width = width; height = height; row = row; side = side }
+    record { light = light; dark = dark; width = width; height = height; row = row; side = side }
 
 -- "row or side outside its range": rows count from 0, and the sides are 1 and 2
 unfoldable pub in_view : ℕ → ℕ → ℕ → Bool

@@ -49,7 +49,7 @@ fn judge(light: usize, dark: usize, width: u32, height: u32, row: u32, side: u32
 
 // Where a row starts in the map of a side, or the cause.
 pub fn view_start(light: &[u8], dark: &[u8], width: u32, height: u32, row: u32, side: u32) -> Viewed
-    ensures answer { viewed_numbers result ≡ viewed_numbers (viewed (view_call light dark width height row side)) }
+    ensures answer { viewed_numbers result ≡ viewed_numbers (viewed (view_call light.now dark.now width height row side)) }
 {
     match judge(light.len(), dark.len(), width, height, row, side) {
         calls::Verdict::Refused(cause) => {
@@ -71,7 +71,7 @@ pub fn view_row<'a>(
     row: u32,
     side: u32,
 ) -> &'a [u8]
-    ensures part { result.now ≡ viewed_part (view_call light dark width height row side) }
+    ensures part { result.now ≡ viewed_part (view_call light.now dark.now width height row side) }
 {
     match judge(light.len(), dark.len(), width, height, row, side) {
         calls::Verdict::Refused(_) => {
