@@ -1,3 +1,4 @@
+-- `cases::escapes::put` meets its contract. Assumes nothing.
 -- The invariant: the place is within the text, the count within the memory, which keeps its length. The measure: how much of the text is left.
 use Prim.Native.Nat.{◌≤◌, ◌-◌}
 use mathlib.Core.Path.{◌≡◌}

@@ -1,4 +1,5 @@
--- The invariant: no more is printed than there is. The measure: how much is left.
+-- `cases::printing::contrasts` is safe and ends. Assumes nothing.
+-- The invariant: no more contrasts are printed than there are. The measure: how many are left.
 use Prim.Native.Nat.{◌≤◌, ◌-◌}
 use lib.ListN.{length}
 use Rattle.cases.proofs.printing.contrasts.Given as goal

@@ -1,3 +1,4 @@
+-- `cases::scan::find` meets its contract. Assumes nothing.
 -- The invariant: the place is no earlier than `from`, and within the text. The measure: how many bytes are left.
 use Prim.Native.Nat.{◌≤◌, ◌-◌}
 use lib.ListN.{length}

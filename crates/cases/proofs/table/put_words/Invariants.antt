@@ -1,3 +1,4 @@
+-- `cases::table::put_words` meets its contract. Assumes nothing.
 -- The invariant: the place is within the list, the count within the memory, which keeps its length. The measure: how much of the list is left.
 use Prim.Native.Nat.{◌≤◌, ◌-◌}
 use mathlib.Core.Path.{◌≡◌}

@@ -1,3 +1,4 @@
+-- `cases::table::read_full` meets its contract. Assumes nothing.
 -- The invariant: no more is read than the memory holds, which keeps its length. The measure: how much room is left.
 use Prim.Native.Nat.{◌≤◌, ◌-◌}
 use mathlib.Core.Path.{◌≡◌}

@@ -1,3 +1,4 @@
+-- `cases::table::start` meets its contract. Assumes nothing.
 -- The invariant: the place is within the line.
 use Prim.Native.Nat.{◌≤◌}
 use lib.ListN.{length}

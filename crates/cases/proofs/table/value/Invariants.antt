@@ -1,3 +1,4 @@
+-- `cases::table::value` is safe and ends. Assumes nothing.
 -- The invariant: no more digits are read than there are. The measure: how many are left.
 use Prim.Native.Nat.{◌≤◌, ◌-◌}
 use lib.ListN.{length}
