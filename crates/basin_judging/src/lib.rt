@@ -1,5 +1,6 @@
 // What the program does with its two files: its causes for refusal, in its order. Nothing is read or printed here.
 #![tactic(auto)]
+
 ghost use Rattle.std.specs.Prelude.{◌≡◌};
 ghost use Rattle.steps.specs.Answer.{parse_answer, steps_after};
 ghost use Rattle.basin_judging.specs.Judging.{both_read, lengths_numbers, sized_by, job_of, job_numbers, job_steps};
