@@ -1,9 +1,23 @@
 # What bench/run, bench/places and bench/reading share. $here is this folder, $out the one for what is made.
 # shellcheck shell=sh
 
-# built ROOT: the static library of a checkout
+# archive ROOT: where the static library of a checkout lies. One for an older Rattle kept it elsewhere.
+archive() {
+    if grep -q '^teldruf staticlib:' "$1/crates.txt"; then
+        echo "$1/crates/teldruf/out/libteldruf.a"
+    else
+        echo "$1/target/staticlib/libteldruf.a"
+    fi
+}
+
+# built ROOT: that library. Of a checkout for an older Rattle, which this one does not build, it is taken as it is.
 built() {
-    (cd "$1" && rt staticlib teldruf) > "$out/staticlib" 2>&1 || { cat "$out/staticlib"; exit 1; }
+    if grep -q '^teldruf staticlib:' "$1/crates.txt"; then
+        (cd "$1/crates/teldruf" && rt lib) > "$out/staticlib" 2>&1 || { cat "$out/staticlib"; exit 1; }
+    elif [ ! -e "$(archive "$1")" ]; then
+        echo "$(archive "$1") is not there: build it with the Rattle that $1 is written for" >&2
+        exit 1
+    fi
 }
 
 # object ROOT NAME: $out/NAME.o, the library of a checkout with its bench/library.c as NAME, which alone can be seen, so that the names of two
@@ -11,7 +25,7 @@ built() {
 object() {
     cp "$1/bench/library.c" "$out/$2.c"
     gcc -O3 -c -DLIBRARY_CALL="$2" -I "$here" -I "$1/include" -o "$out/$2.call.o" "$out/$2.c"
-    ld -r -o "$out/$2.all.o" "$out/$2.call.o" "$1/target/staticlib/libteldruf.a"
+    ld -r -o "$out/$2.all.o" "$out/$2.call.o" "$(archive "$1")"
     objcopy --keep-global-symbol="$2" "$out/$2.all.o" "$out/$2.o"
 }
 

@@ -1,6 +1,6 @@
 """Maps a picture as host.c does, through the module python/teldruf.py and a shared library that is made from the static one:
 
-    gcc -shared -o libteldruf.so -Wl,--whole-archive target/staticlib/libteldruf.a -Wl,--no-whole-archive
+    gcc -shared -o libteldruf.so -Wl,--whole-archive crates/teldruf/out/libteldruf.a -Wl,--no-whole-archive
     python3 examples/host.py ./libteldruf.so [--dark | --combined CONTRAST] [--picture N] PICTURE RESIDUE INDEX \\
         area|height|width|triple [neighbours=4|8] [gap=GAP] STEP..
 

@@ -20,7 +20,7 @@ TypeError or ValueError before any call: numbers are whole and fit 32 bits, a pi
 
 The shared library is target/libteldruf.so of this checkout unless `load` names another. It is made of the static one:
 
-    gcc -shared -o target/libteldruf.so -Wl,--whole-archive target/staticlib/libteldruf.a -Wl,--no-whole-archive
+    gcc -shared -o target/libteldruf.so -Wl,--whole-archive crates/teldruf/out/libteldruf.a -Wl,--no-whole-archive
 """
 
 import ctypes

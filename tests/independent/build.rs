@@ -1,5 +1,5 @@
 // Links libteldruf.a. TELDRUF_LIB_DIR names the folder that holds it; without it, the folder that
-// `rt staticlib teldruf` writes to is taken.
+// `rt lib` in crates/teldruf writes to is taken.
 
 use std::env;
 use std::path::PathBuf;
@@ -8,12 +8,12 @@ fn main() {
     let here = PathBuf::from(env::var("CARGO_MANIFEST_DIR").expect("cargo sets this"));
     let folder = match env::var("TELDRUF_LIB_DIR") {
         Ok(named) => PathBuf::from(named),
-        Err(_) => here.join("../../target/staticlib"),
+        Err(_) => here.join("../../crates/teldruf/out"),
     };
     let archive = folder.join("libteldruf.a");
     assert!(
         archive.exists(),
-        "{} is not there: run `rt staticlib teldruf`, or name its folder in TELDRUF_LIB_DIR",
+        "{} is not there: run `rt lib` in crates/teldruf, or name its folder in TELDRUF_LIB_DIR",
         archive.display()
     );
     println!("cargo:rerun-if-env-changed=TELDRUF_LIB_DIR");

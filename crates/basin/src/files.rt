@@ -3,18 +3,19 @@ ghost use Rattle.std.specs.Prelude.{length};
 ghost use Rattle.basin.specs.Loads.{loaded_within};
 
 use basin_judging::Loaded;
+use std::fs;
+use std::io::Read;
+use std::rt::Files;
 
 // Reads until the buffer is full or the file ends. A read that fails is told from the end of the file.
-fn read_on(fd: i32, buffer: &mut [u8]) -> Loaded
+fn read_on(file: &mut impl Read, buffer: &mut [u8]) -> Loaded
     ensures { loaded_within result (length buffer.new) }
 {
     let mut done = 0;
     while done < buffer.len() {
-        let got = libc::read(fd, &mut buffer[done..]);
-        if got < 0 {
+        let Ok(n) = file.read(&mut buffer[done..]) else {
             return Loaded::Failed;
-        }
-        let n = io::count(got, &buffer[done..]);
+        };
         if n == 0 {
             return Loaded::Bytes(done);
         }
@@ -23,14 +24,11 @@ fn read_on(fd: i32, buffer: &mut [u8]) -> Loaded
     Loaded::Bytes(done)
 }
 
-pub fn load(path: &[u8], buffer: &mut [u8]) -> Loaded
+pub fn load(rt: &impl Files, path: &str, buffer: &mut [u8]) -> Loaded
     ensures { loaded_within result (length buffer.new) }
 {
-    let fd = os::open_read(path);
-    if fd < 0 {
+    let Ok(mut file) = fs::open(rt, path) else {
         return Loaded::Failed;
-    }
-    let loaded = read_on(fd, buffer);
-    libc::close(fd);
-    loaded
+    };
+    read_on(&mut file, buffer)
 }

@@ -1,6 +1,7 @@
 // Sizes the first picture of basin.pgm by the steps of steps.tsv, both in the working folder, and prints a line for each pixel: its row, column,
 // grey, residue and index. A refusal prints its one line alone, since nothing is printed before every cause is judged.
 #![tactic(auto)]
+
 ghost use Rattle.std.specs.Prelude.{◌≡◌, ◌*◌, ◌≤◌, ◌<◌, length};
 ghost use Rattle.causes.specs.Bounds.{words_a_pixel};
 ghost use Rattle.basin_judging.specs.Judging.{most_sized};
@@ -10,19 +11,19 @@ mod files;
 use basin_judging::{Job, Lengths};
 use causes::Cause;
 use grid::Grid;
-use libc::STDOUT_FILENO;
+use std::io;
 
-fn text(s: &[u8]) {
-    io::write_all(STDOUT_FILENO, s);
+fn text(rt: &impl Print, s: &[u8]) -> io::Result<()> {
+    rt.write_all(s)
 }
 
-fn number(n: u64) {
-    io::print_decimal(STDOUT_FILENO, n);
+fn number(rt: &impl Print, n: u64) -> io::Result<()> {
+    rt.print(n)
 }
 
-fn field(n: u64) {
-    text(b"\t");
-    number(n);
+fn field(rt: &impl Print, n: u64) -> io::Result<()> {
+    text(rt, b"\t")?;
+    number(rt, n)
 }
 
 fn byte(b: u8) -> u64 {
@@ -33,38 +34,53 @@ fn place(k: u16) -> u64 {
     k as u64
 }
 
-fn refused(cause: Cause) {
-    text(b"refused");
-    field(causes::number(cause) as u64);
-    text(b"\n");
+fn refused(rt: &impl Print, cause: Cause) -> io::Result<()> {
+    text(rt, b"refused")?;
+    field(rt, causes::number(cause) as u64)?;
+    text(rt, b"\n")
 }
 
-fn pixel(row: u64, column: u64, grey: u8, residue: u8, index: u16) {
-    number(row);
-    field(column);
-    field(byte(grey));
-    field(byte(residue));
-    field(place(index));
-    text(b"\n");
+fn pixel(
+    rt: &impl Print,
+    row: u64,
+    column: u64,
+    grey: u8,
+    residue: u8,
+    index: u16,
+) -> io::Result<()> {
+    number(rt, row)?;
+    field(rt, column)?;
+    field(rt, byte(grey))?;
+    field(rt, byte(residue))?;
+    field(rt, place(index))?;
+    text(rt, b"\n")
 }
 
 // A head line, then a line for each pixel in order of position.
-fn listing(picture: &[u8], width: u32, residue: &[u8], index: &[u16])
+fn listing(
+    rt: &impl Print,
+    picture: &[u8],
+    width: u32,
+    residue: &[u8],
+    index: &[u16],
+) -> io::Result<()>
     requires { (0 < width) × (length residue.now ≡ length picture.now) × (length index.now ≡ length picture.now) }
 {
-    text(b"row\tcol\tgrey\tresidue\tindex\n");
+    text(rt, b"row\tcol\tgrey\tresidue\tindex\n")?;
     let w = width as usize;
     let mut p = 0;
     while p < picture.len() {
         pixel(
+            rt,
             (p / w) as u64,
             (p % w) as u64,
             picture[p],
             residue[p],
             index[p],
-        );
+        )?;
         p += 1;
     }
+    Ok(())
 }
 
 fn words() -> [u32; 14336]
@@ -87,6 +103,7 @@ fn indices_room() -> [u16; 2048]
 
 // Prints the maps of a picture, in memory that is lent for it.
 fn sized(
+    rt: &impl Print,
     picture: &[u8],
     grid: Grid,
     attribute: u32,
@@ -95,7 +112,7 @@ fn sized(
     workspace: &mut [u32],
     residue: &mut [u8],
     index: &mut [u16],
-)
+) -> io::Result<()>
     requires picture_len_bound { length picture.now ≤ most_sized }
     requires most_sized_value { words_a_pixel * most_sized ≡ length workspace.old }
     requires most_sized_value_2 { (most_sized ≡ length residue.old) × (most_sized ≡ length index.old) }
@@ -112,19 +129,27 @@ fn sized(
         &mut index[..n],
     );
     match mapped {
-        calls::Verdict::Accepted => listing(picture, grid.width, &residue[..n], &index[..n]),
-        calls::Verdict::Refused(cause) => refused(cause),
+        calls::Verdict::Accepted => listing(rt, picture, grid.width, &residue[..n], &index[..n]),
+        calls::Verdict::Refused(cause) => refused(rt, cause),
     }
 }
 
 // Prints the maps of a picture of at most 2,048 pixels.
-fn maps(picture: &[u8], grid: Grid, attribute: u32, steps: &[u32], gap: u32)
+fn maps(
+    rt: &impl Print,
+    picture: &[u8],
+    grid: Grid,
+    attribute: u32,
+    steps: &[u32],
+    gap: u32,
+) -> io::Result<()>
     requires { length picture.now ≤ most_sized }
 {
     let mut workspace = words();
     let mut residue = residues_room();
     let mut index = indices_room();
     sized(
+        rt,
         picture,
         grid,
         attribute,
@@ -133,11 +158,11 @@ fn maps(picture: &[u8], grid: Grid, attribute: u32, steps: &[u32], gap: u32)
         &mut workspace,
         &mut residue,
         &mut index,
-    );
+    )
 }
 
 // Prints what the two files' bytes give.
-fn answer(file: &[u8], list: &[u8]) {
+fn answer(rt: &impl Print, file: &[u8], list: &[u8]) -> io::Result<()> {
     let mut thresholds = [0u32; 256];
     match basin_judging::judge(file, list, &mut thresholds) {
         Job::Size {
@@ -146,23 +171,24 @@ fn answer(file: &[u8], list: &[u8]) {
             count,
             gap,
         } => maps(
+            rt,
             pgm::raster(file, basin_judging::PICTURE),
             grid,
             attribute,
             &thresholds[..count],
             gap,
         ),
-        Job::Refused(cause) => refused(cause),
+        Job::Refused(cause) => refused(rt, cause),
     }
 }
 
-fn main() {
+fn main(rt: HostRuntime) -> io::Result<()> {
     let mut file = [0u8; 4097];
     let mut steps = [0u8; 4097];
-    let a = files::load(b"basin.pgm", &mut file);
-    let b = files::load(b"steps.tsv", &mut steps);
+    let a = files::load(&rt, "basin.pgm", &mut file);
+    let b = files::load(&rt, "steps.tsv", &mut steps);
     match basin_judging::both(a, b) {
-        Lengths::Both { picture, list } => answer(&file[..picture], &steps[..list]),
-        Lengths::Refused(cause) => refused(cause),
+        Lengths::Both { picture, list } => answer(&rt, &file[..picture], &steps[..list]),
+        Lengths::Refused(cause) => refused(&rt, cause),
     }
 }

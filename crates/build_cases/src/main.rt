@@ -1,28 +1,30 @@
 // Builds max-trees and prints each answer on a line: the number of nodes or of the cause, then the workspace as the call left it: of a
 // short one every word, of a long one how many words it has. Before a call the workspace is lent full of 7.
 #![tactic(auto)]
+
 ghost use Rattle.std.specs.Prelude.{◌≡◌, length};
 
 use cases::{printing, table};
 use grid::Grid;
+use std::io;
 
-fn answer(built: calls::Built) {
+fn answer(rt: &impl Print, built: calls::Built) -> io::Result<()> {
     match built {
-        calls::Built::Nodes(total) => printing::number(b"\tnodes ", total as u64),
-        calls::Built::Refused(cause) => printing::refused(b"\trefused ", cause),
+        calls::Built::Nodes(total) => printing::number(rt, b"\tnodes ", total as u64),
+        calls::Built::Refused(cause) => printing::refused(rt, b"\trefused ", cause),
     }
 }
 
-fn left(workspace: &[u32]) {
+fn left(rt: &impl Print, workspace: &[u32]) -> io::Result<()> {
     if 350 < workspace.len() {
-        printing::number(b"\t words ", workspace.len() as u64);
-        return;
+        return printing::number(rt, b"\t words ", workspace.len() as u64);
     }
-    printing::text(b"\t");
-    printing::words(workspace);
+    printing::text(rt, b"\t")?;
+    printing::words(rt, workspace)
 }
 
 fn builds(
+    rt: &impl Print,
     name: &[u8],
     picture: &[u8],
     width: u32,
@@ -30,43 +32,48 @@ fn builds(
     attribute: u32,
     neighbours: u32,
     workspace: &mut [u32],
-) {
-    printing::text(name);
-    answer(max_tree::build(
-        picture,
-        Grid {
-            width,
-            height,
-            neighbours,
-        },
-        attribute,
-        workspace,
-    ));
-    left(workspace);
-    printing::text(b"\n");
+) -> io::Result<()> {
+    printing::text(rt, name)?;
+    answer(
+        rt,
+        max_tree::build(
+            picture,
+            Grid {
+                width,
+                height,
+                neighbours,
+            },
+            attribute,
+            workspace,
+        ),
+    )?;
+    left(rt, workspace)?;
+    printing::text(rt, b"\n")
 }
 
 // One line of the table: the name, the picture, the call's numbers, and how many words it is lent.
-fn case(line: &[u8]) {
+fn case(rt: &impl Print, line: &[u8]) -> io::Result<()> {
     let mut greys = [0u8; 256];
     let mut workspace = [7u32; 1792];
     builds(
+        rt,
         table::field(line, 0),
-        table::bytes(line, 1, &mut greys),
+        table::bytes(rt, line, 1, &mut greys)?,
         table::number(line, 2),
         table::number(line, 3),
         table::number(line, 4),
         table::number(line, 5),
-        table::lent_words(line, 6, &mut workspace),
-    );
+        table::lent_words(rt, line, 6, &mut workspace)?,
+    )
 }
 
-fn each(lines: &[u8]) {
+fn each(rt: &impl Print, lines: &[u8]) -> io::Result<()> {
     let mut at = 0;
     while at < lines.len() {
-        case(table::line(lines, at));
+        case(rt, table::line(lines, at))?;
         at = table::next(lines, at);
     }
+    Ok(())
 }
 
 // 7 words for each of 4,096 pixels.
@@ -77,10 +84,11 @@ fn room() -> [u32; 28672]
 }
 
 // The second call is lent what the first left.
-fn largest() {
-    let picture = io::buffer();
+fn largest(rt: &impl Print) -> io::Result<()> {
+    let picture = [0u8; 4096];
     let mut workspace = room();
     builds(
+        rt,
         b"4,096 pixels of one grey",
         &picture,
         64,
@@ -88,12 +96,21 @@ fn largest() {
         1,
         4,
         &mut workspace,
-    );
-    builds(b"in a single row", &picture, 4096, 1, 3, 8, &mut workspace);
+    )?;
+    builds(
+        rt,
+        b"in a single row",
+        &picture,
+        4096,
+        1,
+        3,
+        8,
+        &mut workspace,
+    )
 }
 
-fn main() {
-    let mut memory = io::large_buffer();
-    each(table::read(&mut memory));
-    largest();
+fn main(rt: HostRuntime) -> io::Result<()> {
+    let mut memory = [0u8; 65536];
+    each(&rt, table::read(&rt, &mut memory)?)?;
+    largest(&rt)
 }

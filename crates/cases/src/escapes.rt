@@ -1,8 +1,9 @@
 // Text in which \n, \t and \r stand for those bytes, and \x with two digits for any byte.
-ghost use Rattle.std.specs.Prelude.{◌≤◌, ◌<◌, length};
-ghost use Rattle.io.specs.Counts.{IsPrefixLen};
+ghost use Rattle.std.specs.Prelude.{◌≤◌, ◌<◌, length, IfOk};
+ghost use Rattle.cases.specs.Counts.{IsPrefixLen};
 
 use crate::printing;
+use std::io;
 
 // The byte so many places on; 0 after the end.
 fn ahead(text: &[u8], at: usize, places: usize) -> u8
@@ -67,19 +68,19 @@ fn after(text: &[u8], at: usize) -> usize
 }
 
 // Puts the bytes that a text means into memory, as far as they fit, and answers how many there are.
-pub fn put(text: &[u8], memory: &mut [u8]) -> usize
-    ensures { IsPrefixLen result memory.new }
+pub fn put(rt: &impl Print, text: &[u8], memory: &mut [u8]) -> io::Result<usize>
+    ensures { IfOk result (λ n. IsPrefixLen n memory.new) }
 {
     let mut at = 0;
     let mut count = 0;
     while at < text.len() {
         if memory.len() <= count {
-            printing::cut();
-            return count;
+            printing::cut(rt)?;
+            return Ok(count);
         }
         memory[count] = meant(text, at);
         count += 1;
         at = after(text, at);
     }
-    count
+    Ok(count)
 }

@@ -1,6 +1,7 @@
 // What the programs that run cases share: the table of cases on standard input, and how answers and lent memory are printed. No contract
 // can say what is read or printed, so those here say only which places are within which text.
 #![tactic(auto)]
+
 mod escapes;
 pub mod printing;
 mod scan;

@@ -1,83 +1,91 @@
-// Answers and lent memory, on standard output.
-use libc::STDOUT_FILENO;
+// Answers and lent memory, on standard output. A write that fails ends each of these with its error.
+use std::io;
 
-pub fn text(s: &[u8]) {
-    io::write_all(STDOUT_FILENO, s);
+pub fn text(rt: &impl Print, s: &[u8]) -> io::Result<()> {
+    rt.write_all(s)
 }
 
 // Some of a case does not fit the memory that the program has for it. No stored output has this word, so such a case cannot pass.
-pub(crate) fn cut() {
-    text(b"(cut)");
+pub(crate) fn cut(rt: &impl Print) -> io::Result<()> {
+    text(rt, b"(cut)")
 }
 
 // A number after its label.
-pub fn number(label: &[u8], n: u64) {
-    text(label);
-    io::print_decimal(STDOUT_FILENO, n);
+pub fn number(rt: &impl Print, label: &[u8], n: u64) -> io::Result<()> {
+    text(rt, label)?;
+    rt.print(n)
 }
 
-fn byte(b: u8) {
-    number(b" ", b as u64);
+fn byte(rt: &impl Print, b: u8) -> io::Result<()> {
+    number(rt, b" ", b as u64)
 }
 
-fn entry(x: u16) {
-    number(b" ", x as u64);
+fn entry(rt: &impl Print, x: u16) -> io::Result<()> {
+    number(rt, b" ", x as u64)
 }
 
-fn word(w: u32) {
-    number(b" ", w as u64);
+fn word(rt: &impl Print, w: u32) -> io::Result<()> {
+    number(rt, b" ", w as u64)
 }
 
 // Each byte in decimal, after a blank.
-pub fn bytes(s: &[u8]) {
+pub fn bytes(rt: &impl Print, s: &[u8]) -> io::Result<()> {
     let mut i = 0;
     while i < s.len() {
-        byte(s[i]);
+        byte(rt, s[i])?;
         i += 1;
     }
+    Ok(())
 }
 
-pub fn entries(s: &[u16]) {
+pub fn entries(rt: &impl Print, s: &[u16]) -> io::Result<()> {
     let mut i = 0;
     while i < s.len() {
-        entry(s[i]);
+        entry(rt, s[i])?;
         i += 1;
     }
+    Ok(())
 }
 
-fn contrast(x: i16) {
+fn contrast(rt: &impl Print, x: i16) -> io::Result<()> {
     if x < 0 {
-        number(b" -", (-(x as i32)) as u64);
-        return;
+        return number(rt, b" -", (-(x as i32)) as u64);
     }
-    number(b" ", x as u64);
+    number(rt, b" ", x as u64)
 }
 
-pub fn contrasts(s: &[i16]) {
+pub fn contrasts(rt: &impl Print, s: &[i16]) -> io::Result<()> {
     let mut i = 0;
     while i < s.len() {
-        contrast(s[i]);
+        contrast(rt, s[i])?;
         i += 1;
     }
+    Ok(())
 }
 
-pub fn words(s: &[u32]) {
+pub fn words(rt: &impl Print, s: &[u32]) -> io::Result<()> {
     let mut i = 0;
     while i < s.len() {
-        word(s[i]);
+        word(rt, s[i])?;
         i += 1;
     }
+    Ok(())
 }
 
 // The number of a cause after its label.
-pub fn refused(label: &[u8], cause: causes::Cause) {
-    number(label, causes::number(cause) as u64);
+pub fn refused(rt: &impl Print, label: &[u8], cause: causes::Cause) -> io::Result<()> {
+    number(rt, label, causes::number(cause) as u64)
 }
 
 // What a call answered, by the words for a call that was done and for one that was refused.
-pub fn verdict(answer: calls::Verdict, done: &[u8], label: &[u8]) {
+pub fn verdict(
+    rt: &impl Print,
+    answer: calls::Verdict,
+    done: &[u8],
+    label: &[u8],
+) -> io::Result<()> {
     match answer {
-        calls::Verdict::Accepted => text(done),
-        calls::Verdict::Refused(cause) => refused(label, cause),
+        calls::Verdict::Accepted => text(rt, done),
+        calls::Verdict::Refused(cause) => refused(rt, label, cause),
     }
 }

@@ -1,21 +1,38 @@
 // A table of cases: a heading, then a line for each case, with tabs between its fields, which are counted from 0. A field is a number, a list
 // of numbers with blanks between them, or text with escapes.
-ghost use Rattle.std.specs.Prelude.{◌≤◌, ◌<◌, length};
-ghost use Rattle.io.specs.Counts.{IsPrefixLen};
+ghost use Rattle.std.specs.Prelude.{◌≤◌, ◌<◌, length, IfOk};
+ghost use Rattle.cases.specs.Counts.{IsPrefixLen};
 
 use crate::{escapes, printing, scan};
-use libc::STDIN_FILENO;
+use std::io;
+use std::io::Read;
+
+// Reads until the memory is full or the input ends, and answers how many bytes it put at the start.
+fn read_full(input: &mut impl Read, memory: &mut [u8]) -> io::Result<usize>
+    ensures { IfOk result (λ n. IsPrefixLen n memory.new) }
+{
+    let mut done = 0;
+    while done < memory.len() {
+        let n = input.read(&mut memory[done..])?;
+        if n == 0 {
+            break;
+        }
+        done += n;
+    }
+    Ok(done)
+}
 
 // The lines after the heading.
-pub fn read(memory: &mut [u8]) -> &[u8] {
-    let count = io::read_full(STDIN_FILENO, memory);
+pub fn read<'a>(rt: &(impl Input + Print), memory: &'a mut [u8]) -> io::Result<&'a [u8]> {
+    let mut input = rt.reader();
+    let count = read_full(&mut input, memory)?;
     if memory.len() <= count {
-        printing::cut();
+        printing::cut(rt)?;
     }
     let whole = &memory[..];
     let table = &whole[..count];
     let start = scan::past(table, 0, b'\n');
-    &table[start..]
+    Ok(&table[start..])
 }
 
 // The line that starts at a place.
@@ -79,38 +96,38 @@ fn low(n: u32) -> u8 {
     (n % 256) as u8
 }
 
-fn put_bytes(list: &[u8], memory: &mut [u8]) -> usize
-    ensures { IsPrefixLen result memory.new }
+fn put_bytes(rt: &impl Print, list: &[u8], memory: &mut [u8]) -> io::Result<usize>
+    ensures { IfOk result (λ n. IsPrefixLen n memory.new) }
 {
     let mut at = 0;
     let mut count = 0;
     while at < list.len() {
         if memory.len() <= count {
-            printing::cut();
-            return count;
+            printing::cut(rt)?;
+            return Ok(count);
         }
         memory[count] = low(value(scan::until(list, at, b' ')));
         count += 1;
         at = scan::past(list, at, b' ');
     }
-    count
+    Ok(count)
 }
 
-fn put_words(list: &[u8], memory: &mut [u32]) -> usize
-    ensures { IsPrefixLen result memory.new }
+fn put_words(rt: &impl Print, list: &[u8], memory: &mut [u32]) -> io::Result<usize>
+    ensures { IfOk result (λ n. IsPrefixLen n memory.new) }
 {
     let mut at = 0;
     let mut count = 0;
     while at < list.len() {
         if memory.len() <= count {
-            printing::cut();
-            return count;
+            printing::cut(rt)?;
+            return Ok(count);
         }
         memory[count] = value(scan::until(list, at, b' '));
         count += 1;
         at = scan::past(list, at, b' ');
     }
-    count
+    Ok(count)
 }
 
 // The field k as a number.
@@ -119,62 +136,97 @@ pub fn number(line: &[u8], k: usize) -> u32 {
 }
 
 // As a list of bytes, put into memory.
-pub fn bytes<'a>(line: &[u8], k: usize, memory: &'a mut [u8]) -> &'a [u8] {
-    let count = put_bytes(field(line, k), memory);
+pub fn bytes<'a>(
+    rt: &impl Print,
+    line: &[u8],
+    k: usize,
+    memory: &'a mut [u8],
+) -> io::Result<&'a [u8]> {
+    let count = put_bytes(rt, field(line, k), memory)?;
     let whole = &memory[..];
-    &whole[..count]
+    Ok(&whole[..count])
 }
 
 // As a list of words.
-pub fn words<'a>(line: &[u8], k: usize, memory: &'a mut [u32]) -> &'a [u32] {
-    let count = put_words(field(line, k), memory);
+pub fn words<'a>(
+    rt: &impl Print,
+    line: &[u8],
+    k: usize,
+    memory: &'a mut [u32],
+) -> io::Result<&'a [u32]> {
+    let count = put_words(rt, field(line, k), memory)?;
     let whole = &memory[..];
-    &whole[..count]
+    Ok(&whole[..count])
 }
 
 // As text.
-pub fn text<'a>(line: &[u8], k: usize, memory: &'a mut [u8]) -> &'a [u8] {
-    let count = escapes::put(field(line, k), memory);
+pub fn text<'a>(
+    rt: &impl Print,
+    line: &[u8],
+    k: usize,
+    memory: &'a mut [u8],
+) -> io::Result<&'a [u8]> {
+    let count = escapes::put(rt, field(line, k), memory)?;
     let whole = &memory[..];
-    &whole[..count]
+    Ok(&whole[..count])
 }
 
 // As many of the first bytes of some memory as the field k says.
-pub fn lent_bytes<'a>(line: &[u8], k: usize, memory: &'a mut [u8]) -> &'a mut [u8] {
+pub fn lent_bytes<'a>(
+    rt: &impl Print,
+    line: &[u8],
+    k: usize,
+    memory: &'a mut [u8],
+) -> io::Result<&'a mut [u8]> {
     let count = number(line, k) as usize;
     if memory.len() < count {
-        printing::cut();
-        return memory;
+        printing::cut(rt)?;
+        return Ok(memory);
     }
-    &mut memory[..count]
+    Ok(&mut memory[..count])
 }
 
 // The same of 16-bit entries.
-pub fn lent_entries<'a>(line: &[u8], k: usize, memory: &'a mut [u16]) -> &'a mut [u16] {
+pub fn lent_entries<'a>(
+    rt: &impl Print,
+    line: &[u8],
+    k: usize,
+    memory: &'a mut [u16],
+) -> io::Result<&'a mut [u16]> {
     let count = number(line, k) as usize;
     if memory.len() < count {
-        printing::cut();
-        return memory;
+        printing::cut(rt)?;
+        return Ok(memory);
     }
-    &mut memory[..count]
+    Ok(&mut memory[..count])
 }
 
 // The same of 16-bit entries with a sign.
-pub fn lent_contrasts<'a>(line: &[u8], k: usize, memory: &'a mut [i16]) -> &'a mut [i16] {
+pub fn lent_contrasts<'a>(
+    rt: &impl Print,
+    line: &[u8],
+    k: usize,
+    memory: &'a mut [i16],
+) -> io::Result<&'a mut [i16]> {
     let count = number(line, k) as usize;
     if memory.len() < count {
-        printing::cut();
-        return memory;
+        printing::cut(rt)?;
+        return Ok(memory);
     }
-    &mut memory[..count]
+    Ok(&mut memory[..count])
 }
 
 // The same of words.
-pub fn lent_words<'a>(line: &[u8], k: usize, memory: &'a mut [u32]) -> &'a mut [u32] {
+pub fn lent_words<'a>(
+    rt: &impl Print,
+    line: &[u8],
+    k: usize,
+    memory: &'a mut [u32],
+) -> io::Result<&'a mut [u32]> {
     let count = number(line, k) as usize;
     if memory.len() < count {
-        printing::cut();
-        return memory;
+        printing::cut(rt)?;
+        return Ok(memory);
     }
-    &mut memory[..count]
+    Ok(&mut memory[..count])
 }

@@ -1,10 +1,13 @@
 // Maps pictures and prints each answer on a line: done, or the number of the cause, then the residue map, the index map and the workspace
 // as the call left them. Before every call the workspace is lent full of 7, the residue map full of 8 and the index map full of 9.
 #![tactic(auto)]
+
 use cases::{printing, table};
 use grid::Grid;
+use std::io;
 
 fn maps(
+    rt: &impl Print,
     name: &[u8],
     picture: &[u8],
     width: u32,
@@ -16,8 +19,8 @@ fn maps(
     workspace: &mut [u32],
     residue: &mut [u8],
     index: &mut [u16],
-) {
-    printing::text(name);
+) -> io::Result<()> {
+    printing::text(rt, name)?;
     let answer = residues::map(
         picture,
         Grid {
@@ -32,47 +35,49 @@ fn maps(
         residue,
         index,
     );
-    printing::verdict(answer, b"\tdone", b"\trefused ");
-    printing::text(b"\t");
-    printing::bytes(residue);
-    printing::text(b"\t");
-    printing::entries(index);
-    printing::text(b"\t");
-    printing::words(workspace);
-    printing::text(b"\n");
+    printing::verdict(rt, answer, b"\tdone", b"\trefused ")?;
+    printing::text(rt, b"\t")?;
+    printing::bytes(rt, residue)?;
+    printing::text(rt, b"\t")?;
+    printing::entries(rt, index)?;
+    printing::text(rt, b"\t")?;
+    printing::words(rt, workspace)?;
+    printing::text(rt, b"\n")
 }
 
 // One line of the table: the name, the picture, the call's numbers and steps, and how many words, bytes and entries it is lent.
-fn case(line: &[u8]) {
+fn case(rt: &impl Print, line: &[u8]) -> io::Result<()> {
     let mut greys = [0u8; 25];
     let mut thresholds = [0u32; 257];
     let mut workspace = [7u32; 175];
     let mut residue = [8u8; 25];
     let mut index = [9u16; 25];
     maps(
+        rt,
         table::field(line, 0),
-        table::bytes(line, 1, &mut greys),
+        table::bytes(rt, line, 1, &mut greys)?,
         table::number(line, 2),
         table::number(line, 3),
         table::number(line, 4),
         table::number(line, 5),
-        table::words(line, 6, &mut thresholds),
+        table::words(rt, line, 6, &mut thresholds)?,
         table::number(line, 7),
-        table::lent_words(line, 8, &mut workspace),
-        table::lent_bytes(line, 9, &mut residue),
-        table::lent_entries(line, 10, &mut index),
-    );
+        table::lent_words(rt, line, 8, &mut workspace)?,
+        table::lent_bytes(rt, line, 9, &mut residue)?,
+        table::lent_entries(rt, line, 10, &mut index)?,
+    )
 }
 
-fn each(lines: &[u8]) {
+fn each(rt: &impl Print, lines: &[u8]) -> io::Result<()> {
     let mut at = 0;
     while at < lines.len() {
-        case(table::line(lines, at));
+        case(rt, table::line(lines, at))?;
         at = table::next(lines, at);
     }
+    Ok(())
 }
 
-fn main() {
-    let mut memory = io::large_buffer();
-    each(table::read(&mut memory));
+fn main(rt: HostRuntime) -> io::Result<()> {
+    let mut memory = [0u8; 65536];
+    each(&rt, table::read(&rt, &mut memory)?)
 }
