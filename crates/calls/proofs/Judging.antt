@@ -26,10 +26,10 @@ use Rattle.calls.specs.declared.Kind.TheVariants.{Thresholds, Triples}
 use Rattle.calls.specs.declared.Verdict.{Verdict}
 use Rattle.calls.specs.declared.Verdict.TheVariants.{Accepted, Refused}
 
--- one test more, by what its answer and the verdict before it are
+-- one test more, by what the verdict before it and its answer are
 pub tested : {r v v' : Verdict} {good good' : Bool} (cause : Cause)
-    → good ≡ good' → v ≡ v' → r ≡ also v (good, cause) → r ≡ also v' (good', cause)
-tested {v' = v'} {good = good} cause answer before is =
+    → r ≡ also v (good, cause) → v ≡ v' → good ≡ good' → r ≡ also v' (good', cause)
+tested {v' = v'} {good = good} cause is before answer =
     is ∙ ap (λ (u : Verdict). also u (good, cause)) before ∙ ap (λ (b : Bool). also v' (b, cause)) answer
 
 -- a refusal stays, a test that holds changes nothing, and one that fails refuses

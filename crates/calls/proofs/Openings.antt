@@ -1,5 +1,5 @@
--- What the scope says of an opening of a picture with the greys g, by a step of either kind, and at every threshold in its own words. Each law
--- cites one over any test on sets. A picture has no more pixels than it may have.
+-- What the scope says of an opening of a picture with the greys g, at every threshold, and by a step of either kind. Each law cites one over
+-- any test on sets. A picture has no more pixels than it may have.
 use Prim.Native.Nat.{ℕ, ◌≤◌, ◌<◌}
 use mathlib.Core.Logic.{◌↔◌, inl, inr}
 use mathlib.Core.Bool.{true, false}
@@ -34,38 +34,24 @@ greatest_same : (P Q : ℕ → Type 0) → ((h : ℕ) → P h ↔ Q h) → (leas
 greatest_same P Q same least v (inl (pass, highest)) = inl ((same v).0 pass, λ h pass_h. highest h ((same h).1 pass_h))
 greatest_same P Q same least v (inr (none, is_least)) = inr ((λ h pass. none h ((same h).1 pass)), is_least)
 
--- of steps of either kind
-module _ (grid : Grid) (few : pixels grid ≤ most_pixels) (step : Step) (g : ℕ → ℕ) (p : ℕ) where
-  -- a node goes exactly if it is not the root and fails the step: "A node stays if it meets all three."
-  pub step_goes : opened_by (pixels grid) (adjacent grid) (step_test grid step) g p < g p
-      ↔ ((least_grey (pixels grid) g < g p) × (step_test grid step (member (node (pixels grid) (adjacent grid) g p)) ≡ false))
-  step_goes = opened_goes (pixels grid) (adjacent grid) (step_test grid step) (step_up grid few step) g p
-
-  pub step_greatest : step_good step ≡ true
-      → Greatest
-      (λ (level : ℕ). step_test grid step (member (component_at (pixels grid) (adjacent grid) g level p)) ≡ true)
-      (least_grey (pixels grid) g)
-      (opened_by (pixels grid) (adjacent grid) (step_test grid step) g p)
-  step_greatest good =
-      opened_greatest (pixels grid) (adjacent grid) (step_test grid step) (step_up grid few step) g p (step_needs_pixel grid step good)
-
-  -- "The opened grey of a pixel is found by climbing from its node to the nearest kept ancestor." "Levels fall strictly on the way up, so a
-  -- climb has at most 255 steps": a climb of 255 finds the new grey of a byte
-  pub climb_opens : 1 ≤ grid.width → p < pixels grid → g p ≤ longest_climb
-      → climbed (pixels grid) (adjacent grid) (step_test grid step) g longest_climb p ≡ opened_by (pixels grid) (adjacent grid) (step_test grid step) g p
-  climb_opens wide below byte =
-      climbed_opened
-      (pixels grid)
-      (adjacent grid)
-      (adjacent_symmetric grid)
-      g
-      (step_test grid step)
-      (step_up grid few step)
-      (grid_whole grid wide g)
-      longest_climb
-      p
-      below
-      byte
+-- a climb of 255 finds the new grey of a byte by a step of either kind: "The opened grey of a pixel is found by climbing from its node to the
+-- nearest kept ancestor."
+pub climb_opens_by :
+    (grid : Grid) → pixels grid ≤ most_pixels → (step : Step) (g : ℕ → ℕ) (p : ℕ) → 1 ≤ grid.width → p < pixels grid → g p ≤ longest_climb
+    → climbed (pixels grid) (adjacent grid) (step_test grid step) g longest_climb p ≡ opened_by (pixels grid) (adjacent grid) (step_test grid step) g p
+climb_opens_by grid few step g p wide below byte =
+    climbed_opened
+    (pixels grid)
+    (adjacent grid)
+    (adjacent_symmetric grid)
+    g
+    (step_test grid step)
+    (step_up grid few step)
+    (grid_whole grid wide g)
+    longest_climb
+    p
+    below
+    byte
 
 -- so is every grey that an accepted call writes, whichever kind of step it names
 pub climb_writes : (call : OpenCall) → open_verdict call ≡ Accepted → (p : ℕ) → p < pixels call.grid → grey call.picture p ≤ longest_climb
@@ -75,9 +61,8 @@ unfolding open_output opened_picture
 climb_writes call is p below byte =
     let fits = bounded call.grid.width call.grid.height (open_passed call is).common.sides in
     rw (is, table_at (pixels call.grid) (opened_by (pixels call.grid) (adjacent call.grid) (step_test call.grid call.step) (grey call.picture)) p 0 below)
-    (sym (climb_opens call.grid fits.small call.step (grey call.picture) p fits.wide below byte))
+    (sym (climb_opens_by call.grid fits.small call.step (grey call.picture) p fits.wide below byte))
 
--- of thresholds
 module _ (grid : Grid) (few : pixels grid ≤ most_pixels) (a t : ℕ) (g : ℕ → ℕ) (p : ℕ) where
   up : Upward (pixels grid) (at_least (attribute grid a) t)
   up = at_least_up (pixels grid) (attribute grid a) (attribute_increasing grid a few) t
@@ -114,3 +99,33 @@ module _ (grid : Grid) (few : pixels grid ≤ most_pixels) (a t : ℕ) (g : ℕ 
         (λ less. let (inner, small) = goes.0 less in (inner, leb-false t _ small)),
         (λ both. goes.1 (both.0, lt-leb t _ both.1)),
       )
+
+  -- the same of steps of either kind: "A node stays if it meets all three."
+  pub step_goes : (step : Step) → opened_by (pixels grid) (adjacent grid) (step_test grid step) g p < g p
+      ↔ ((least_grey (pixels grid) g < g p) × (step_test grid step (member (node (pixels grid) (adjacent grid) g p)) ≡ false))
+  step_goes step = opened_goes (pixels grid) (adjacent grid) (step_test grid step) (step_up grid few step) g p
+
+  pub step_greatest : (step : Step) → step_good step ≡ true
+      → Greatest
+      (λ (level : ℕ). step_test grid step (member (component_at (pixels grid) (adjacent grid) g level p)) ≡ true)
+      (least_grey (pixels grid) g)
+      (opened_by (pixels grid) (adjacent grid) (step_test grid step) g p)
+  step_greatest step good =
+      opened_greatest (pixels grid) (adjacent grid) (step_test grid step) (step_up grid few step) g p (step_needs_pixel grid step good)
+
+  -- "Levels fall strictly on the way up, so a climb has at most 255 steps": a climb of 255 finds the new grey of a byte
+  pub climb_opens : 1 ≤ grid.width → p < pixels grid → g p ≤ 255
+      → climbed (pixels grid) (adjacent grid) (at_least (attribute grid a) t) g 255 p ≡ opening grid a t g p
+  climb_opens wide below byte =
+      climbed_opened
+      (pixels grid)
+      (adjacent grid)
+      (adjacent_symmetric grid)
+      g
+      (at_least (attribute grid a) t)
+      up
+      (grid_whole grid wide g)
+      255
+      p
+      below
+      byte

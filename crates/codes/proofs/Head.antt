@@ -13,13 +13,13 @@ use Rattle.pgm_read.specs.declared.Found.{Found}
 use Rattle.pgm_read.specs.declared.Found.TheVariants.{Picture, Refused}
 use Rattle.pgm_read.proofs.Answers.{found_determined}
 use Rattle.codes.specs.Codes.{value_limit, number_code, head_with}
-use Rattle.codes.specs.Told.{HeadTold}
-use Rattle.codes.proofs.Told.{Answered, refused, done, told, same_numbers}
+use Rattle.codes.specs.Told.{Told, HeadTold}
+use Rattle.codes.proofs.Told.{refused, done, told, same_numbers}
 
 -- the number alone is that of an answer without a value
-number_answered : (found : Found) → Answered false (take 1 (found_numbers found))
-number_answered (Picture width height maximum start) = done
-number_answered (Refused cause) = refused cause
+number_told : (found : Found) → Told (number_code (found_numbers found)) (take 1 (found_numbers found))
+number_told (Picture width height maximum start) = told done
+number_told (Refused cause) = told {has_value = false} (refused cause)
 
 -- words stored over as many are those that are there
 stored_over : (words head : List ℕ) → length head ≡ length words → sets head 0 words ≡ words
@@ -48,7 +48,7 @@ same_answer (Refused c) (Refused d) head other four four' code words =
 pub head_told : HeadTold
 head_told =
     record {
-      told = λ found. told (number_answered found);
+      told = number_told;
       values = values_there;
       left = left_as_lent;
       same = same_answer;

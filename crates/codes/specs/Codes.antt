@@ -1,6 +1,6 @@
 -- What the C interface makes of the number and values of an answer: 64 bits, the value where the call is accepted (0 where it has none),
 -- else the cause's number times 2^32. No value reaches 2^32 but where the raster starts, which stands in the head.
-use Rattle.std.specs.Prelude.{ℕ, ◌*◌, ◌^◌, cond, List, [], ◌∷◌, eqb, take}
+use Rattle.std.specs.Prelude.{ℕ, ◌*◌, ◌^◌, cond, List, [], ◌∷◌, eqb}
 use Rattle.std.proofs.lemmas.List.Edits.{sets}
 use Rattle.pgm_read.specs.declared.Found.{Found}
 use Rattle.pgm_read.specs.declared.Found.TheVariants.{Picture, Refused}
@@ -12,12 +12,13 @@ value_limit = 2 ^ 32
 -- an answer of one value at most, from its numbers
 abbrev pub code_of : List ℕ → ℕ
 code_of [] = 0
-code_of (number ∷ []) = number * value_limit
-code_of (number ∷ value ∷ rest) = cond (eqb number 0) value (number * value_limit)
+code_of (number ∷ []) = number * 2 ^ 32
+code_of (number ∷ value ∷ rest) = cond (eqb number 0) value (number * 2 ^ 32)
 
 -- the reader's answer, whose values stand in the head
 abbrev pub number_code : List ℕ → ℕ
-number_code numbers = code_of (take 1 numbers)
+number_code [] = 0
+number_code (number ∷ values) = number * 2 ^ 32
 
 -- the four words of the head hold width, height, maximum and where the raster starts in the file; a refusal leaves them as they were
 abbrev pub head_with : Found → List ℕ → List ℕ

@@ -129,6 +129,13 @@ module _ {n q listed : ℕ} {ws : List ℕ} (ready : Writable n q listed ws) {on
   pub one_most : one ≤ 1
   one_most = rw is (bit_most (is_lowest n ws q))
 
+  -- the three words stored in the whole list
+  pub stored_at : {parent attribute : ℕ}
+      → parent ≡ cond (eqb one 1) (lowest_of n ws (up_of n ws (number_at ws q))) (lowest_of n ws (number_at ws q))
+      → attribute ≡ cond (eqb one 1) (held_of n ws (number_at ws q)) 0
+      → set (set (set ws q parent) (n + q) attribute) (2 * n + listed) q ≡ written_at n q listed ws
+  stored_at p a = rw (p, a, by_test (is_lowest n ws q) is) refl
+
   high : 3 * n ≤ length ws
   high = omega (arith, ready.sized.words)
 

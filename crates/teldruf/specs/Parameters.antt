@@ -1,5 +1,5 @@
 -- The calls by the parameters of the C interface, in their order.
-use Rattle.std.specs.Prelude.{ℕ}
+use Rattle.std.specs.Prelude.{ℕ, List}
 use Rattle.grid.specs.Pixels.{grid_of}
 use Rattle.grid.specs.Triples.{triple_of}
 use Rattle.calls.specs.Calls.{BuildCall, build_call, OpenCall, open_call, MapCall, map_call}

@@ -1,6 +1,7 @@
 // The C interface. Each function hands lent memory on to the call that it is named for, and answers 64 bits: the value where the call is
 // accepted, 0 for "done", else the cause's number times 2^32. include/teldruf.h declares them.
 #![tactic(auto)]
+
 ghost use Rattle.std.specs.Prelude.{◌≡◌, length};
 ghost use Rattle.pgm_read.specs.Read.{read_answer, found_numbers};
 ghost use Rattle.pgm_write.specs.Write.{write_answer, written_numbers, buffer_after};
