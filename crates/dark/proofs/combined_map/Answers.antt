@@ -20,7 +20,7 @@ abbrev lent : After-also-verdict → List ℤ
 lent c = c.args.contrast.now
 
 judged : (c : After-also-verdict) → c.also-verdict.result ≡ combined_verdict (call c) (lent c)
-judged c = tested Output c.entry_each.ensures.answer c.judge_sizing-sizing.ensures.answer c.also-verdict.ensures.answer
+judged c = tested Output c.also-verdict.ensures.answer c.judge_sizing-sizing.ensures.answer c.entry_each.ensures.answer
 
 pub returns-in-Refused : goal.returns-in-Refused
 returns-in-Refused c =

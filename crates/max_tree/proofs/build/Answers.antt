@@ -14,7 +14,7 @@ call c =
     record { picture = a.picture.now; grid = a.grid; attribute = a.attribute; workspace = a.workspace.now }
 
 judged : (c : After-also-verdict) → c.also-verdict.result ≡ build_verdict (call c)
-judged c = tested Workspace c.words_each.ensures.answer c.judge_picture-named.ensures.answer c.also-verdict.ensures.answer
+judged c = tested Workspace c.also-verdict.ensures.answer c.judge_picture-named.ensures.answer c.words_each.ensures.answer
 
 pub returns-in-Refused : goal.returns-in-Refused
 returns-in-Refused c =

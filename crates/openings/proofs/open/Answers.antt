@@ -16,9 +16,9 @@ call c =
 judged : (c : After-also-verdict) → c.also-verdict.result ≡ open_verdict (call c)
 judged c =
     let by-picture = named_by (call c).grid _ c.judge_picture-named.ensures.answer c.step_attribute.ensures.answer in
-    let by-step = tested Steps c.step_good.ensures.answer by-picture c.also-by_step.ensures.answer in
-    let by-words = tested Workspace c.words_each.ensures.answer by-step c.also-by_words.ensures.answer in
-    tested Output c.entry_each.ensures.answer by-words c.also-verdict.ensures.answer
+    let by-step = tested Steps c.also-by_step.ensures.answer by-picture c.step_good.ensures.answer in
+    let by-words = tested Workspace c.also-by_words.ensures.answer by-step c.words_each.ensures.answer in
+    tested Output c.also-verdict.ensures.answer by-words c.entry_each.ensures.answer
 
 pub returns-in-Refused : goal.returns-in-Refused
 returns-in-Refused c =
