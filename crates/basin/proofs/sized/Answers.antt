@@ -1,6 +1,6 @@
 -- `basin::sized` is safe and ends: a call that is done had sides that fit. Assumes nothing.
 use Prim.Native.Nat.{ℕ, ◌*◌}
-use mathlib.Core.Path.{◌≡◌, ◌∙◌, sym}
+use mathlib.Core.Path.{◌∙◌, sym}
 use native.Mathlib.Omega.{arith}
 use lib.ListN.{length, take}
 use Rattle.causes.specs.Bounds.{words_a_pixel}
