@@ -1,5 +1,5 @@
 // Text in which \n, \t and \r stand for those bytes, and \x with two digits for any byte.
-ghost use Rattle.std.specs.Prelude.{◌≤◌, ◌<◌, length, IfOk};
+ghost use Rattle.std.specs.Prelude.{◌≤◌, ◌<◌, ◌≡◌, length, IfOk, IfErr};
 ghost use Rattle.cases.specs.Counts.{IsPrefixLen};
 
 use crate::printing;
@@ -69,7 +69,8 @@ fn after(text: &[u8], at: usize) -> usize
 
 // Puts the bytes that a text means into memory, as far as they fit, and answers how many there are.
 pub fn put(rt: &impl Print, text: &[u8], memory: &mut [u8]) -> io::Result<usize>
-    ensures { IfOk result (λ n. IsPrefixLen n memory.new) }
+    ensures ok { IfOk result (λ n. IsPrefixLen n memory.new) }
+    ensures err { IfErr result (λ e. length memory.new ≡ length memory.old) }
 {
     let mut at = 0;
     let mut count = 0;

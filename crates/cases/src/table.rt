@@ -1,6 +1,6 @@
 // A table of cases: a heading, then a line for each case, with tabs between its fields, which are counted from 0. A field is a number, a list
 // of numbers with blanks between them, or text with escapes.
-ghost use Rattle.std.specs.Prelude.{◌≤◌, ◌<◌, length, IfOk};
+ghost use Rattle.std.specs.Prelude.{◌≤◌, ◌<◌, ◌≡◌, length, IfOk, IfErr};
 ghost use Rattle.cases.specs.Counts.{IsPrefixLen};
 
 use crate::{escapes, printing, scan};
@@ -9,7 +9,8 @@ use std::io::Read;
 
 // Reads until the memory is full or the input ends, and answers how many bytes it put at the start.
 fn read_full(input: &mut impl Read, memory: &mut [u8]) -> io::Result<usize>
-    ensures { IfOk result (λ n. IsPrefixLen n memory.new) }
+    ensures ok { IfOk result (λ n. IsPrefixLen n memory.new) }
+    ensures err { IfErr result (λ e. length memory.new ≡ length memory.old) }
 {
     let mut done = 0;
     while done < memory.len() {
@@ -97,7 +98,8 @@ fn low(n: u32) -> u8 {
 }
 
 fn put_bytes(rt: &impl Print, list: &[u8], memory: &mut [u8]) -> io::Result<usize>
-    ensures { IfOk result (λ n. IsPrefixLen n memory.new) }
+    ensures ok { IfOk result (λ n. IsPrefixLen n memory.new) }
+    ensures err { IfErr result (λ e. length memory.new ≡ length memory.old) }
 {
     let mut at = 0;
     let mut count = 0;
@@ -114,7 +116,8 @@ fn put_bytes(rt: &impl Print, list: &[u8], memory: &mut [u8]) -> io::Result<usiz
 }
 
 fn put_words(rt: &impl Print, list: &[u8], memory: &mut [u32]) -> io::Result<usize>
-    ensures { IfOk result (λ n. IsPrefixLen n memory.new) }
+    ensures ok { IfOk result (λ n. IsPrefixLen n memory.new) }
+    ensures err { IfErr result (λ e. length memory.new ≡ length memory.old) }
 {
     let mut at = 0;
     let mut count = 0;
