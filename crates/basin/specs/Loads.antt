@@ -1,8 +1,6 @@
 -- What loading a file promises: no more bytes than there is room for.
-use Rattle.std.specs.Prelude.{ℕ, ◌≤◌}
-use Rattle.basin_judging.specs.declared.Loaded.{Loaded}
-use Rattle.basin_judging.specs.declared.Loaded.TheVariants.{Bytes, Failed}
+use Rattle.std.specs.Prelude.{ℕ, ◌≤◌, Option, Some, None}
 
-abbrev pub loaded_within : Loaded → ℕ → Type 0
-loaded_within (Bytes count) room = count ≤ room
-loaded_within Failed room = Unit {0}
+abbrev pub loaded_within : Option ℕ → ℕ → Type 0
+loaded_within (Some count) room = count ≤ room
+loaded_within None room = Unit {0}

@@ -2,33 +2,31 @@
 ghost use Rattle.std.specs.Prelude.{length};
 ghost use Rattle.basin.specs.Loads.{loaded_within};
 
-use basin_judging::Loaded;
 use std::fs;
 use std::io::Read;
 use std::rt::Files;
 
-// Reads until the buffer is full or the file ends. A read that fails is told from the end of the file.
-fn read_on(file: &mut impl Read, buffer: &mut [u8]) -> Loaded
+// Reads until the buffer is full or the file ends, and answers how many bytes there are. A read that fails is told from the end of the file,
+// and answers none; `read_full` of crate cases hands its error on.
+fn read_on(file: &mut impl Read, buffer: &mut [u8]) -> Option<usize>
     ensures { loaded_within result (length buffer.new) }
 {
     let mut done = 0;
+    // A `while`, since a turn goes on by as many bytes as a read returned.
     while done < buffer.len() {
-        let Ok(n) = file.read(&mut buffer[done..]) else {
-            return Loaded::Failed;
-        };
+        let n = file.read(&mut buffer[done..]).ok()?;
         if n == 0 {
-            return Loaded::Bytes(done);
+            break;
         }
         done += n;
     }
-    Loaded::Bytes(done)
+    Some(done)
 }
 
-pub fn load(rt: &impl Files, path: &str, buffer: &mut [u8]) -> Loaded
+// How many bytes a file has, none where it was not opened or read.
+pub fn load(rt: &impl Files, path: &str, buffer: &mut [u8]) -> Option<usize>
     ensures { loaded_within result (length buffer.new) }
 {
-    let Ok(mut file) = fs::open(rt, path) else {
-        return Loaded::Failed;
-    };
+    let mut file = fs::open(rt, path).ok()?;
     read_on(&mut file, buffer)
 }

@@ -10,50 +10,16 @@ mod files;
 
 use basin_judging::{Job, Lengths};
 use causes::Cause;
-use grid::Grid;
 use std::io;
 
-fn text(rt: &impl Print, s: &[u8]) -> io::Result<()> {
-    rt.write_all(s)
-}
+// Room for a file, and for one byte more, so that a longer one is told.
+const FILE_ROOM: usize = basin_judging::LONGEST_FILE + 1;
 
-fn number(rt: &impl Print, n: u64) -> io::Result<()> {
-    rt.print(n)
-}
-
-fn field(rt: &impl Print, n: u64) -> io::Result<()> {
-    text(rt, b"\t")?;
-    number(rt, n)
-}
-
-fn byte(b: u8) -> u64 {
-    b as u64
-}
-
-fn place(k: u16) -> u64 {
-    k as u64
-}
+// The words of workspace that the largest picture needs.
+const WORDS: usize = causes::WORDS_A_PIXEL * basin_judging::MOST_SIZED;
 
 fn refused(rt: &impl Print, cause: Cause) -> io::Result<()> {
-    text(rt, b"refused")?;
-    field(rt, causes::number(cause) as u64)?;
-    text(rt, b"\n")
-}
-
-fn pixel(
-    rt: &impl Print,
-    row: u64,
-    column: u64,
-    grey: u8,
-    residue: u8,
-    index: u16,
-) -> io::Result<()> {
-    number(rt, row)?;
-    field(rt, column)?;
-    field(rt, byte(grey))?;
-    field(rt, byte(residue))?;
-    field(rt, place(index))?;
-    text(rt, b"\n")
+    println!(rt; "refused\t{}", u32::from(cause))
 }
 
 // A head line, then a line for each pixel in order of position.
@@ -64,51 +30,22 @@ fn listing(
     residue: &[u8],
     index: &[u16],
 ) -> io::Result<()>
-    requires { (0 < width) × (length residue.now ≡ length picture.now) × (length index.now ≡ length picture.now) }
+    requires { 0 < width }
 {
-    text(rt, b"row\tcol\tgrey\tresidue\tindex\n")?;
+    println!(rt; "row\tcol\tgrey\tresidue\tindex")?;
     let w = width as usize;
-    let mut p = 0;
-    while p < picture.len() {
-        pixel(
-            rt,
-            (p / w) as u64,
-            (p % w) as u64,
-            picture[p],
-            residue[p],
-            index[p],
-        )?;
-        p += 1;
+    for (p, ((grey, residue), index)) in picture.iter().zip(residue).zip(index).enumerate() {
+        println!(rt; "{}\t{}\t{grey}\t{residue}\t{index}", p / w, p % w)?;
     }
     Ok(())
-}
-
-fn words() -> [u32; 14336]
-    ensures { words_a_pixel * most_sized ≡ length result }
-{
-    [0; 14336]
-}
-
-fn residues_room() -> [u8; 2048]
-    ensures { most_sized ≡ length result }
-{
-    [0; 2048]
-}
-
-fn indices_room() -> [u16; 2048]
-    ensures { most_sized ≡ length result }
-{
-    [0; 2048]
 }
 
 // Prints the maps of a picture, in memory that is lent for it.
 fn sized(
     rt: &impl Print,
     picture: &[u8],
-    grid: Grid,
-    attribute: u32,
+    job: Job,
     steps: &[u32],
-    gap: u32,
     workspace: &mut [u32],
     residue: &mut [u8],
     index: &mut [u16],
@@ -118,43 +55,36 @@ fn sized(
     requires most_sized_value_2 { (most_sized ≡ length residue.old) × (most_sized ≡ length index.old) }
 {
     let n = picture.len();
+    let residue = &mut residue[..n];
+    let index = &mut index[..n];
     let mapped = residues::map(
         picture,
-        grid,
-        calls::Kind::Thresholds(attribute),
+        job.grid,
+        calls::Kind::Thresholds(job.attribute),
         steps,
-        gap,
+        job.gap,
         &mut workspace[..causes::WORDS_A_PIXEL * n],
-        &mut residue[..n],
-        &mut index[..n],
+        residue,
+        index,
     );
     match mapped {
-        calls::Verdict::Accepted => listing(rt, picture, grid.width, &residue[..n], &index[..n]),
-        calls::Verdict::Refused(cause) => refused(rt, cause),
+        Ok(()) => listing(rt, picture, job.grid.width, residue, index),
+        Err(cause) => refused(rt, cause),
     }
 }
 
-// Prints the maps of a picture of at most 2,048 pixels.
-fn maps(
-    rt: &impl Print,
-    picture: &[u8],
-    grid: Grid,
-    attribute: u32,
-    steps: &[u32],
-    gap: u32,
-) -> io::Result<()>
+// Prints the maps of a picture of at most 2,048 pixels, in fixed memory, since nothing is allocated.
+fn maps(rt: &impl Print, picture: &[u8], job: Job, steps: &[u32]) -> io::Result<()>
     requires { length picture.now ≤ most_sized }
 {
-    let mut workspace = words();
-    let mut residue = residues_room();
-    let mut index = indices_room();
+    let mut workspace = [0; WORDS];
+    let mut residue = [0; basin_judging::MOST_SIZED];
+    let mut index = [0; basin_judging::MOST_SIZED];
     sized(
         rt,
         picture,
-        grid,
-        attribute,
+        job,
         steps,
-        gap,
         &mut workspace,
         &mut residue,
         &mut index,
@@ -163,32 +93,25 @@ fn maps(
 
 // Prints what the two files' bytes give.
 fn answer(rt: &impl Print, file: &[u8], list: &[u8]) -> io::Result<()> {
-    let mut thresholds = [0u32; 256];
+    let mut thresholds = [0; causes::MOST_STEPS];
     match basin_judging::judge(file, list, &mut thresholds) {
-        Job::Size {
-            grid,
-            attribute,
-            count,
-            gap,
-        } => maps(
+        Ok(job) => maps(
             rt,
             pgm::raster(file, basin_judging::PICTURE),
-            grid,
-            attribute,
-            &thresholds[..count],
-            gap,
+            job,
+            &thresholds[..job.count],
         ),
-        Job::Refused(cause) => refused(rt, cause),
+        Err(cause) => refused(rt, cause),
     }
 }
 
 fn main(rt: HostRuntime) -> io::Result<()> {
-    let mut file = [0u8; 4097];
-    let mut steps = [0u8; 4097];
+    let mut file = [0; FILE_ROOM];
+    let mut steps = [0; FILE_ROOM];
     let a = files::load(&rt, "basin.pgm", &mut file);
     let b = files::load(&rt, "steps.tsv", &mut steps);
     match basin_judging::both(a, b) {
-        Lengths::Both { picture, list } => answer(&rt, &file[..picture], &steps[..list]),
-        Lengths::Refused(cause) => refused(&rt, cause),
+        Ok(Lengths { picture, list }) => answer(&rt, &file[..picture], &steps[..list]),
+        Err(cause) => refused(&rt, cause),
     }
 }

@@ -1,7 +1,7 @@
 -- The flood and the passes over the words of the nodes: what holds after each, and that it is what the next asks.
 use Prim.Native.Nat.{ℕ, ◌+◌, ◌/◌, ◌%◌, ◌<◌}
 use mathlib.Core.List.{List}
-use mathlib.Core.Path.{◌≡◌, refl, sym, ap, ◌∙◌}
+use mathlib.Core.Path.{◌≡◌, sym, ap, ◌∙◌}
 use native.Mathlib.Nat.{le_refl, mod-lt}
 use native.Mathlib.Omega.{arith}
 use lib.Dec.{eqb}
@@ -28,7 +28,7 @@ use Rattle.causes.proofs.Laws.{Bounded, bounded}
 use Rattle.levels.specs.Levels.{grey}
 use Rattle.levels.specs.Workspace.{Sized, number_at, numbered, closed_of, lowest_of, up_of, held_of}
 use Rattle.flooding.specs.Numbers.{parent_by}
-use Rattle.flood.specs.Calls.{Floodable, NumberedBy}
+use Rattle.flood.specs.Calls.{NumberedBy}
 use Rattle.accumulators.specs.Accumulators.{nothing, single, combined, measured, gathered, Short}
 use Rattle.accumulators.proofs.Accumulators.{single_small, gathered_ends, measured_attribute}
 use Rattle.branches.specs.Branches.{branch}
@@ -76,9 +76,6 @@ module _ {grid : Grid} {picture ws : List ℕ} (B : Buildable grid picture ws) w
 
   pub rebuildable : {ws' : List ℕ} → length ws' ≡ length ws → Buildable grid picture ws'
   rebuildable long = record { sides = B.sides; bytes = B.bytes; words = long ∙ B.words }
-
-  pub flood_asked : Floodable grid picture ws
-  flood_asked = record { sized = sized refl; whole = B.bytes; wide = fits.wide; high = fits.high }
 
   pub flood_left : {ws' : List ℕ} {m : ℕ} → ((x : ℕ) → grey picture x < 256) → length ws' ≡ length ws → NumberedBy grid picture ws' m → FloodLeft grid picture ws' m
   flood_left greys long left =

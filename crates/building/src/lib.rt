@@ -1,6 +1,7 @@
 // Building up to the record of a picture's max-tree, which is kept in a workspace: part 1 the parents, part 2 the attributes, part 3 the list of
 // the nodes, parts 4 to 7 scratch. The flood gives the nodes numbers, and the passes make the record of the words of the nodes. The calls are
-// in the crates above.
+// in the crates above. Here and in the passes the picture, its grid, the attribute and the workspace come one by one, as the definitions take them:
+// a struct of them would spare a parameter and lengthen every clause. So does the attribute's number, of which they take any.
 #![tactic(auto)]
 
 ghost use Rattle.std.specs.Prelude.{◌++◌, ◌≡◌, ◌+◌, ◌-◌, ◌*◌, ◌≤◌, length, take, replicate};
@@ -42,7 +43,8 @@ fn end_list(nodes: usize, list: &mut [u32])
     levels::fill(&mut list[nodes..n], 0);
 }
 
-// Zeroes what follows the list of the nodes in a workspace with n words to a part: the rest of part 3, and parts 4 to 7.
+// Zeroes what follows the list of the nodes in a workspace with n words to a part: the rest of part 3, and parts 4 to 7. Each part is lent on
+// for writing by itself.
 fn clear_scratch(n: usize, nodes: usize, workspace: &mut [u32])
     requires sized { Sized n workspace.old }
     requires nodes_le_n { nodes ≤ n }

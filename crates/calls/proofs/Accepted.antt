@@ -1,4 +1,6 @@
 -- The tests of each call: the order of their causes, and what holds of a call that is accepted, since it passed every one. Assumes nothing.
+use Rattle.std.specs.Prelude.{Ok, Err}
+use Rattle.calls.specs.Judging.{Verdict}
 use Prim.Native.Nat.{ℕ, ◌*◌, ◌≤◌}
 use mathlib.Core.Bool.{true, false, ◌&&◌}
 use mathlib.Core.List.{List, [], ◌∷◌}
@@ -19,8 +21,6 @@ use Rattle.causes.specs.declared.Cause.{Cause}
 use Rattle.calls.specs.Judging.{threshold_good, all_good, steps_good, step_good, list_good, gap_good, Test, also, verdict_after, verdict_of, cause_order, accepted}
 use Rattle.calls.specs.Calls.{BuildCall, build_tests, build_verdict, OpenCall, open_tests, open_verdict, MapCall, map_tests, map_verdict, kept_by, map_residue, map_index, residue_map, index_map}
 use Rattle.calls.specs.Combined.{combined_tests}
-use Rattle.calls.specs.declared.Verdict.{Verdict}
-use Rattle.calls.specs.declared.Verdict.TheVariants.{Accepted, Refused}
 
 -- "Order for library calls on a picture: 1 to 6", "17, neighbourhood neither 4 nor 8, after 3", "19, gap above 256, after 4": the causes of each call
 -- by their numbers, of which it has those that can apply to it
@@ -74,24 +74,24 @@ unfoldable pub AllHold : List Test → Type 0
 AllHold [] = Unit {0}
 AllHold (test ∷ later) = (test.0 ≡ true) × AllHold later
 
-not_refused : (cause : Cause) → Refused cause ≡ Accepted → ⊥
+not_refused : (cause : Cause) → ◌≡◌ {A = Verdict} (Err cause) (Ok tt) → ⊥
 not_refused cause e = let clash : ◌≡◌ {A = ℕ} 0 1 = cc in omega arith
 
 -- no test takes a refusal back
-refused_on : (cause : Cause) (tests : List Test) → verdict_after (Refused cause) tests ≡ Accepted → ⊥
+refused_on : (cause : Cause) (tests : List Test) → verdict_after (Err cause) tests ≡ Ok tt → ⊥
 unfolding also
 refused_on cause [] e = not_refused cause e
 refused_on cause (test ∷ later) e = refused_on cause later e
 
 -- one test more: where it is accepted it was before, and the test holds
-pub also_accepted : (verdict : Verdict) (test : Test) → also verdict test ≡ Accepted → (verdict ≡ Accepted) × (test.0 ≡ true)
+pub also_accepted : (verdict : Verdict) (test : Test) → also verdict test ≡ Ok tt → (verdict ≡ Ok tt) × (test.0 ≡ true)
 unfolding also
-also_accepted Accepted (true, cause) e = (refl, refl)
-also_accepted Accepted (false, cause) e = absurd (not_refused cause e)
-also_accepted (Refused first) test e = absurd (not_refused first e)
+also_accepted (Ok done) (true, cause) e = (refl, refl)
+also_accepted (Ok done) (false, cause) e = absurd (not_refused cause e)
+also_accepted (Err first) test e = absurd (not_refused first e)
 
 -- a call that is accepted passes every test
-pub all_hold : (tests : List Test) → verdict_of tests ≡ Accepted → AllHold tests
+pub all_hold : (tests : List Test) → verdict_of tests ≡ Ok tt → AllHold tests
 unfolding AllHold also
 all_hold [] e = tt
 all_hold ((true, cause) ∷ later) e = (refl, all_hold later e)
@@ -103,7 +103,7 @@ pub record Passed (grid : Grid) (bytes words : ℕ) : Type 0 where
   pub a_byte_each : bytes ≡ pixels grid
   pub words_each : words ≡ words_a_pixel * pixels grid
 
-pub build_passed : (call : BuildCall) → build_verdict call ≡ Accepted → Passed call.grid (length call.picture) (length call.workspace)
+pub build_passed : (call : BuildCall) → build_verdict call ≡ Ok tt → Passed call.grid (length call.picture) (length call.workspace)
 unfolding AllHold
 build_passed call ok =
     let h = all_hold (build_tests call) ok in
@@ -114,7 +114,7 @@ pub record OpenPassed (call : OpenCall) : Type 0 where
   pub step : step_good call.step ≡ true
   pub output : length call.output ≡ pixels call.grid
 
-pub open_passed : (call : OpenCall) → open_verdict call ≡ Accepted → OpenPassed call
+pub open_passed : (call : OpenCall) → open_verdict call ≡ Ok tt → OpenPassed call
 unfolding AllHold
 open_passed call ok =
     let h = all_hold (open_tests call) ok in
@@ -132,7 +132,7 @@ pub record MapPassed (call : MapCall) : Type 0 where
   pub residue : length call.residue ≡ pixels call.grid
   pub index : length call.index ≡ pixels call.grid
 
-pub map_passed : (call : MapCall) → map_verdict call ≡ Accepted → MapPassed call
+pub map_passed : (call : MapCall) → map_verdict call ≡ Ok tt → MapPassed call
 unfolding AllHold gap_good
 map_passed call ok =
     let h = all_hold (map_tests call) ok in
@@ -146,13 +146,13 @@ map_passed call ok =
     }
 
 -- what an accepted map call writes
-pub maps_accepted : (call : MapCall) → map_verdict call ≡ Accepted
+pub maps_accepted : (call : MapCall) → map_verdict call ≡ Ok tt
     → (map_residue call ≡ residue_map call.grid (kept_by call) call.gap call.picture)
     × (map_index call ≡ index_map call.grid (kept_by call) call.gap call.picture)
 unfolding map_residue map_index
 maps_accepted call ok = (rw ok, rw ok)
 
 -- the test and the verdict
-pub accepted_verdict : (verdict : Verdict) → accepted verdict ≡ true → verdict ≡ Accepted
-accepted_verdict Accepted e = refl
-accepted_verdict (Refused cause) e = let clash : ◌≡◌ {A = ℕ} 0 1 = cc in absurd (omega arith)
+pub accepted_verdict : (verdict : Verdict) → accepted verdict ≡ true → verdict ≡ Ok tt
+accepted_verdict (Ok done) e = refl
+accepted_verdict (Err cause) e = let clash : ◌≡◌ {A = ℕ} 0 1 = cc in absurd (omega arith)

@@ -1,5 +1,6 @@
 -- A threshold and its triple with two zeros open alike, and a step list and its triples give the same maps: of light floc, of dark floc and of both.
 -- Assumes that the attribute is one.
+use Rattle.calls.specs.Judging.{Verdict}
 use Prim.Native.Nat.{ℕ}
 use mathlib.Core.Bool.{true}
 use mathlib.Core.List.{List}
@@ -13,7 +14,6 @@ use Rattle.calls.specs.Judging.{attribute_good}
 use Rattle.calls.specs.Calls.{opened_picture, residue_map, index_map, after, opening_of, open_verdict, open_output, MapCall, mapping_of, map_verdict, map_residue, map_index}
 use Rattle.calls.specs.Combined.{combined_verdict, combined_residues, combined_indices, combined_contrasts, combined_residue, combined_index, combined_contrast}
 use Rattle.calls.specs.Alike.{OpensAlike, MapsAlike, CombinesAlike, words_needed}
-use Rattle.calls.specs.declared.Verdict.{Verdict}
 use Rattle.calls.specs.declared.Step.TheVariants.{Threshold, Three}
 use Rattle.calls.specs.declared.Kind.TheVariants.{Thresholds, Triples}
 use Rattle.calls.proofs.Unnamed.{area_good}

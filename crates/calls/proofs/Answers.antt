@@ -1,24 +1,23 @@
 -- An answer's numbers determine it: a promise of the numbers is one of the answer. Assumes nothing.
+use Rattle.std.specs.Prelude.{Result, Ok, Err, ℕ}
+use Rattle.calls.specs.Judging.{Verdict}
 use mathlib.Core.Path.{◌≡◌, refl, ap}
 use native.Mathlib.Omega.{arith}
 use lib.ListN.{length}
+use Rattle.causes.specs.declared.Cause.{Cause}
 use Rattle.causes.specs.Causes.{number_of}
 use Rattle.causes.proofs.Numbers.{number_determined, number_positive}
 use Rattle.calls.specs.Judging.{verdict_numbers}
 use Rattle.calls.specs.Calls.{built_numbers}
-use Rattle.calls.specs.declared.Verdict.{Verdict}
-use Rattle.calls.specs.declared.Verdict.TheVariants.{Accepted, Refused}
-use Rattle.calls.specs.declared.Built.{Built}
-use Rattle.calls.specs.declared.Built.TheVariants.{Nodes, Refused as NotBuilt}
 
 pub verdict_determined : (r s : Verdict) → verdict_numbers r ≡ verdict_numbers s → r ≡ s
-verdict_determined Accepted Accepted e = refl
-verdict_determined Accepted (Refused d) e = let none : 0 ≡ number_of d = cc in absurd (omega (arith, number_positive d))
-verdict_determined (Refused c) Accepted e = let none : number_of c ≡ 0 = cc in absurd (omega (arith, number_positive c))
-verdict_determined (Refused c) (Refused d) e = ap Refused (number_determined c d (cc e))
+verdict_determined (Ok done) (Ok again) e = refl
+verdict_determined (Ok done) (Err d) e = let none : 0 ≡ number_of d = cc in absurd (omega (arith, number_positive d))
+verdict_determined (Err c) (Ok done) e = let none : number_of c ≡ 0 = cc in absurd (omega (arith, number_positive c))
+verdict_determined (Err c) (Err d) e = ap Err (number_determined c d (cc e))
 
-pub built_determined : (r s : Built) → built_numbers r ≡ built_numbers s → r ≡ s
-built_determined (Nodes k) (Nodes l) e = cc
-built_determined (Nodes k) (NotBuilt d) e = absurd (omega (arith, ap length e))
-built_determined (NotBuilt c) (Nodes l) e = absurd (omega (arith, ap length e))
-built_determined (NotBuilt c) (NotBuilt d) e = ap NotBuilt (number_determined c d (cc e))
+pub built_determined : (r s : Result ℕ Cause) → built_numbers r ≡ built_numbers s → r ≡ s
+built_determined (Ok k) (Ok l) e = cc
+built_determined (Ok k) (Err d) e = absurd (omega (arith, ap length e))
+built_determined (Err c) (Ok l) e = absurd (omega (arith, ap length e))
+built_determined (Err c) (Err d) e = ap Err (number_determined c d (cc e))

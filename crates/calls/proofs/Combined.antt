@@ -1,4 +1,5 @@
 -- The combined call: what holds of one that is accepted, and the contrast beside the residue. Assumes nothing.
+use Rattle.std.specs.Prelude.{Ok}
 use Prim.Native.Nat.{ℕ, zero, suc, ◌≤◌, ◌<◌}
 use mathlib.Core.Bool.{cond}
 use mathlib.Core.List.{List}
@@ -15,13 +16,12 @@ use Rattle.grid.specs.Pixels.{pixels}
 use Rattle.calls.specs.Calls.{MapCall, map_verdict, map_residue, map_index}
 use Rattle.calls.specs.Reversed.{reversed_call}
 use Rattle.calls.specs.Combined.{larger_residue, winning_index, contrast_of, light_residue, light_index, dark_residue, dark_index, combined_residues, combined_indices, combined_contrasts, combined_verdict, combined_residue, combined_index, combined_contrast, AtCombined}
-use Rattle.calls.specs.declared.Verdict.TheVariants.{Accepted}
 use Rattle.calls.proofs.Accepted.{also_accepted, maps_accepted}
 use Rattle.calls.proofs.Reversed.{reversed_verdict}
 
 -- an accepted combined call would be accepted as a map call, and its contrast map has an entry for each pixel
-pub combined_passed : (call : MapCall) (contrast : List ℤ) → combined_verdict call contrast ≡ Accepted
-    → (map_verdict call ≡ Accepted) × (length contrast ≡ pixels call.grid)
+pub combined_passed : (call : MapCall) (contrast : List ℤ) → combined_verdict call contrast ≡ Ok tt
+    → (map_verdict call ≡ Ok tt) × (length contrast ≡ pixels call.grid)
 combined_passed call contrast ok =
     let both = also_accepted (map_verdict call) _ ok in
     (both.0, eqb-true _ _ both.1)
@@ -35,7 +35,7 @@ chosen_larger light dark =
     (le_or_lt light dark)
 
 -- at each pixel of an accepted call
-module _ (call : MapCall) (contrast : List ℤ) (ok : combined_verdict call contrast ≡ Accepted) (p : ℕ) (inside : p < pixels call.grid) where
+module _ (call : MapCall) (contrast : List ℤ) (ok : combined_verdict call contrast ≡ Ok tt) (p : ℕ) (inside : p < pixels call.grid) where
   residue_is : get_or (combined_residue call contrast) p 0 ≡ larger_residue (light_residue call p) (dark_residue call p)
   unfolding combined_residue combined_residues
   residue_is = rw ok (table_at (pixels call.grid) _ p 0 inside)

@@ -1,5 +1,6 @@
 -- What the scope says of an opening of a picture with the greys g, at every threshold, and by a step of either kind. Each law cites one over
 -- any test on sets. A picture has no more pixels than it may have.
+use Rattle.std.specs.Prelude.{Ok}
 use Prim.Native.Nat.{ℕ, ◌≤◌, ◌<◌}
 use mathlib.Core.Logic.{◌↔◌, inl, inr}
 use mathlib.Core.Bool.{true, false}
@@ -25,7 +26,6 @@ use Rattle.calls.specs.Steps.{step_test}
 use Rattle.calls.specs.Judging.{step_good}
 use Rattle.calls.specs.Calls.{grey, opening, opened_picture, OpenCall, open_verdict, open_output}
 use Rattle.calls.specs.declared.Step.{Step}
-use Rattle.calls.specs.declared.Verdict.TheVariants.{Accepted}
 use Rattle.calls.proofs.Accepted.{open_passed, bounded}
 use Rattle.calls.proofs.Steps.{step_up, step_needs_pixel}
 
@@ -54,7 +54,7 @@ climb_opens_by grid few step g p wide below byte =
     byte
 
 -- so is every grey that an accepted call writes, whichever kind of step it names
-pub climb_writes : (call : OpenCall) → open_verdict call ≡ Accepted → (p : ℕ) → p < pixels call.grid → grey call.picture p ≤ longest_climb
+pub climb_writes : (call : OpenCall) → open_verdict call ≡ Ok tt → (p : ℕ) → p < pixels call.grid → grey call.picture p ≤ longest_climb
     → get_or (open_output call) p 0
     ≡ climbed (pixels call.grid) (adjacent call.grid) (step_test call.grid call.step) (grey call.picture) longest_climb p
 unfolding open_output opened_picture

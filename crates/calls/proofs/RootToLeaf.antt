@@ -1,5 +1,6 @@
 -- The record of a picture has its nodes from the root to the leaves, and every accepted call leaves it. Of the record alone: assumes that the
 -- sides fit.
+use Rattle.std.specs.Prelude.{Ok}
 use Prim.Native.Nat.{ℕ, ◌<◌}
 use mathlib.Core.Bool.{Bool, cond}
 use mathlib.Core.List.{List}
@@ -29,7 +30,6 @@ use Rattle.calls.specs.Calls.{MapCall, map_verdict, map_workspace}
 use Rattle.calls.specs.Reversed.{reversed}
 use Rattle.calls.specs.Combined.{combined_verdict, combined_workspace}
 use Rattle.calls.specs.RootToLeaf.{parent, entry, nodes, RootToLeaf}
-use Rattle.calls.specs.declared.Verdict.TheVariants.{Accepted}
 use Rattle.calls.proofs.Accepted.{build_passed, open_passed, map_passed, bounded}
 use Rattle.calls.proofs.Combined.{combined_passed}
 
@@ -97,26 +97,26 @@ module _ (grid : Grid) (a : ℕ) (picture : List ℕ) (fits : Bounded grid.width
       }
 
 -- every accepted call leaves it
-pub build_root_to_leaf : (call : BuildCall) → build_verdict call ≡ Accepted → RootToLeaf call.grid call.picture (build_workspace call)
+pub build_root_to_leaf : (call : BuildCall) → build_verdict call ≡ Ok tt → RootToLeaf call.grid call.picture (build_workspace call)
 unfolding build_workspace
 build_root_to_leaf call accepted =
     let grid = call.grid in
     rw accepted (record_root_to_leaf grid call.attribute call.picture (bounded grid.width grid.height (build_passed call accepted).sides))
 
-pub open_root_to_leaf : (call : OpenCall) → open_verdict call ≡ Accepted → RootToLeaf call.grid call.picture (open_workspace call)
+pub open_root_to_leaf : (call : OpenCall) → open_verdict call ≡ Ok tt → RootToLeaf call.grid call.picture (open_workspace call)
 unfolding open_workspace
 open_root_to_leaf call accepted =
     let grid = call.grid in
     rw accepted (record_root_to_leaf grid (step_attribute call.step) call.picture (bounded grid.width grid.height (open_passed call accepted).common.sides))
 
-pub map_root_to_leaf : (call : MapCall) → map_verdict call ≡ Accepted → RootToLeaf call.grid call.picture (map_workspace call)
+pub map_root_to_leaf : (call : MapCall) → map_verdict call ≡ Ok tt → RootToLeaf call.grid call.picture (map_workspace call)
 unfolding map_workspace
 map_root_to_leaf call accepted =
     let grid = call.grid in
     rw accepted (record_root_to_leaf grid (list_attribute call.kind) call.picture (bounded grid.width grid.height (map_passed call accepted).common.sides))
 
 -- a dark call is a map call on the reversed picture, and a combined call leaves the same
-pub combined_root_to_leaf : (call : MapCall) (contrast : List ℤ) → combined_verdict call contrast ≡ Accepted
+pub combined_root_to_leaf : (call : MapCall) (contrast : List ℤ) → combined_verdict call contrast ≡ Ok tt
     → RootToLeaf call.grid (reversed call.picture) (combined_workspace call contrast)
 unfolding combined_workspace
 combined_root_to_leaf call contrast accepted =

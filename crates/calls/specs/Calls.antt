@@ -1,5 +1,7 @@
 -- What the calls on a picture answer and write. A picture is the list of its greys by position; what is lent comes in as a list, and
 -- a refused call leaves it as it was.
+use Rattle.std.specs.Prelude.{Ok, Err, Result}
+use Rattle.calls.specs.Judging.{Verdict}
 use Rattle.std.specs.Prelude.{ℕ, List, [], ◌∷◌, ◌++◌, length}
 use Rattle.sets.specs.Sets.{table, member}
 use Rattle.grid.specs.Pixels.{pixels}
@@ -12,15 +14,12 @@ use Rattle.opening.specs.Node.{node}
 use Rattle.opening.specs.Residue.{residue_by, index_by}
 use Rattle.tree.specs.Tree.{workspace, number_of_nodes}
 use Rattle.causes.specs.Causes.{number_of}
+use Rattle.causes.specs.declared.Cause.{Cause}
 use Rattle.causes.specs.declared.Cause.TheVariants.{Steps}
 use Rattle.calls.specs.Steps.{step_test, step_attribute, list_tests, list_attribute}
 use Rattle.calls.specs.Judging.{step_good, Test, verdict_of, picture_tests, workspace_test, output_test, sizing_tests}
 use Rattle.calls.specs.declared.Step.{Step}
 use Rattle.calls.specs.declared.Kind.{Kind}
-use Rattle.calls.specs.declared.Verdict.{Verdict}
-use Rattle.calls.specs.declared.Verdict.TheVariants.{Accepted, Refused}
-use Rattle.calls.specs.declared.Built.{Built}
-use Rattle.calls.specs.declared.Built.TheVariants.{Nodes, Refused as NotBuilt}
 
 -- the new grey of a position: the opening at the threshold t of the attribute a, in a picture with the greys g
 abbrev pub opening : Grid → ℕ → ℕ → (ℕ → ℕ) → ℕ → ℕ
@@ -51,8 +50,8 @@ record_of grid a picture = workspace (pixels grid) (adjacent grid) (attribute gr
 
 -- what a lent run holds after a call: what the call writes if it is accepted; a refusal leaves "all lent memory" as it was
 abbrev pub after : {E : Type 0} → Verdict → List E → List E → List E
-after Accepted written lent = written
-after (Refused cause) written lent = lent
+after (Ok done) written lent = written
+after (Err cause) written lent = lent
 
 -- Building: what a call names and is lent.
 pub record BuildCall : Type 0 where
@@ -77,19 +76,19 @@ abbrev pub build_verdict : BuildCall → Verdict
 build_verdict call = verdict_of (build_tests call)
 
 -- "Building answers the number of nodes."
-abbrev pub built_by : Verdict → ℕ → Built
-built_by Accepted nodes = Nodes nodes
-built_by (Refused cause) nodes = NotBuilt cause
+abbrev pub built_by : Verdict → ℕ → Result ℕ Cause
+built_by (Ok done) nodes = Ok nodes
+built_by (Err cause) nodes = Err cause
 
 -- its answer
-unfoldable pub built : BuildCall → Built
+unfoldable pub built : BuildCall → Result ℕ Cause
 built call =
     built_by (build_verdict call) (number_of_nodes (pixels call.grid) (adjacent call.grid) (grey call.picture))
 
 -- "this paper's number and values for each enum case": 0 and the number of nodes, or the number of the cause
-abbrev pub built_numbers : Built → List ℕ
-built_numbers (Nodes nodes) = 0 ∷ nodes ∷ []
-built_numbers (NotBuilt cause) = number_of cause ∷ []
+abbrev pub built_numbers : Result ℕ Cause → List ℕ
+built_numbers (Ok nodes) = 0 ∷ nodes ∷ []
+built_numbers (Err cause) = number_of cause ∷ []
 
 -- the workspace after it
 unfoldable pub build_workspace : BuildCall → List ℕ

@@ -1,4 +1,5 @@
 -- The combined call: both sides of a picture, light floc and dark. It names and is lent what a map call is, and a contrast map.
+use Rattle.calls.specs.Judging.{Verdict}
 use Rattle.std.specs.Prelude.{ℕ, ◌≤◌, ◌<◌, max, Bool, cond, List, [], ◌∷◌, ◌++◌, ◌≡◌, ltb, ℤ, pos, neg_ℤ, length, get_or}
 use Rattle.sets.specs.Sets.{table}
 use Rattle.grid.specs.Pixels.{pixels}
@@ -6,7 +7,6 @@ use Rattle.calls.specs.Judging.{Test, verdict_of, output_test}
 use Rattle.calls.specs.Steps.{list_attribute}
 use Rattle.calls.specs.Calls.{residue_map, index_map, record_of, after, MapCall, map_tests, kept_by, map_residue, map_index}
 use Rattle.calls.specs.Reversed.{reversed, reversed_call}
-use Rattle.calls.specs.declared.Verdict.{Verdict}
 
 -- light wins only if its residue is larger
 abbrev pub light_wins : ℕ → ℕ → Bool

@@ -1,4 +1,5 @@
 -- When a call on a picture is refused, and for which cause. Only lengths and named numbers decide, never a grey.
+use Rattle.std.specs.Prelude.{Ok, Err, Result}
 use Rattle.std.specs.Prelude.{ℕ, ◌*◌, ◌%◌, Bool, true, false, cond, ◌&&◌, ◌||◌, List, [], ◌∷◌, ◌++◌, map, leb, ltb, eqb, length}
 use Rattle.opening.specs.Residue.{rising}
 use Rattle.grid.specs.Pixels.{pixels}
@@ -15,8 +16,6 @@ use Rattle.calls.specs.declared.Step.{Step}
 use Rattle.calls.specs.declared.Step.TheVariants.{Threshold, Three}
 use Rattle.calls.specs.declared.Kind.{Kind}
 use Rattle.calls.specs.declared.Kind.TheVariants.{Thresholds, Triples}
-use Rattle.calls.specs.declared.Verdict.{Verdict}
-use Rattle.calls.specs.declared.Verdict.TheVariants.{Accepted, Refused}
 
 -- "attribute not 1, 2 or 3"
 unfoldable pub attribute_good : ℕ → Bool
@@ -87,10 +86,14 @@ gap_good gap = leb gap most_gap
 abbrev pub Test : Type 0
 Test = Bool × Cause
 
+-- whether a call is accepted, and if not the first cause that applies
+abbrev pub Verdict : Type 0
+Verdict = Result Unit Cause
+
 -- one test more: it decides where all tests before it held, else the first that failed has decided
 unfoldable pub also : Verdict → Test → Verdict
-also Accepted test = cond test.0 Accepted (Refused test.1)
-also (Refused first) test = Refused first
+also (Ok done) test = cond test.0 (Ok tt) (Err test.1)
+also (Err first) test = Err first
 
 -- the verdict after further tests, in their order
 abbrev pub verdict_after : Verdict → List Test → Verdict
@@ -99,7 +102,7 @@ verdict_after verdict (test ∷ later) = verdict_after (also verdict test) later
 
 -- a call is judged by its tests in order: the first that fails gives the cause
 abbrev pub verdict_of : List Test → Verdict
-verdict_of tests = verdict_after Accepted tests
+verdict_of tests = verdict_after (Ok tt) tests
 
 -- "Order for library calls on a picture: 1 to 6", and "17 [..] after 3": the first four, by the grid, the picture's bytes and the attribute.
 abbrev pub picture_tests : Grid → ℕ → ℕ → List Test
@@ -134,10 +137,10 @@ cause_order tests = map (λ (test : Test). number_of test.1) tests
 
 -- "A call is accepted if no cause for refusal applies to it, else refused."
 abbrev pub accepted : Verdict → Bool
-accepted Accepted = true
-accepted (Refused cause) = false
+accepted (Ok done) = true
+accepted (Err cause) = false
 
 -- "this paper's number and values for each enum case": the number of an answer, 0 where the call is accepted, which has no value
 abbrev pub verdict_numbers : Verdict → List ℕ
-verdict_numbers Accepted = 0 ∷ []
-verdict_numbers (Refused cause) = number_of cause ∷ []
+verdict_numbers (Ok done) = 0 ∷ []
+verdict_numbers (Err cause) = number_of cause ∷ []

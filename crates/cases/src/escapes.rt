@@ -1,87 +1,47 @@
 // Text in which \n, \t and \r stand for those bytes, and \x with two digits for any byte.
-ghost use Rattle.std.specs.Prelude.{◌≤◌, ◌<◌, ◌≡◌, length, IfOk, IfErr};
-ghost use Rattle.cases.specs.Counts.{IsPrefixLen};
+ghost use Rattle.std.specs.Prelude.{◌<◌, length};
+ghost use Rattle.std.specs.Iterator.{at_most};
 
-use crate::printing;
-use std::io;
-
-// The byte so many places on; 0 after the end.
-fn ahead(text: &[u8], at: usize, places: usize) -> u8
-    requires { at < length text.now }
-{
-    if places < text.len() - at {
-        return text[at + places];
-    }
-    0
-}
-
-// A digit of base 16.
-fn digit(glyph: u8) -> u8
+// A digit of base 16; 0 for any other glyph, and after the end.
+fn digit(glyph: Option<&u8>) -> u8
     ensures { result < 16 }
 {
     match glyph {
-        b'0'..=b'9' => glyph - b'0',
-        b'a'..=b'f' => glyph - b'a' + 10,
+        Some(d @ b'0'..=b'9') => *d - b'0',
+        Some(d @ b'a'..=b'f') => *d - b'a' + 10,
         _ => 0,
     }
 }
 
-// The byte that is meant at a place.
-fn meant(text: &[u8], at: usize) -> u8
-    requires { at < length text.now }
-{
-    if text[at] != b'\\' {
-        return text[at];
-    }
-    match ahead(text, at, 1) {
-        b'n' => b'\n',
-        b't' => b'\t',
-        b'r' => b'\r',
-        _ => digit(ahead(text, at, 2)) * 16 + digit(ahead(text, at, 3)),
-    }
+// The byte of two digits.
+fn byte(digits: &[u8]) -> u8 {
+    digit(digits.first()) * 16 + digit(digits.get(1))
 }
 
-// How many places it takes.
-fn width(text: &[u8], at: usize) -> usize
-    requires { at < length text.now }
-    ensures { 0 < result }
-{
-    if text[at] != b'\\' {
-        return 1;
-    }
-    if ahead(text, at, 1) == b'x' {
-        return 4;
-    }
-    2
+// The bytes that a text means, of which this much is left.
+#[derive(Drop)]
+pub struct Meant<'a> {
+    pub text: &'a [u8],
 }
 
-// The place after it.
-fn after(text: &[u8], at: usize) -> usize
-    requires { at < length text.now }
-    ensures { (at < result) × (result ≤ length text.now) }
-{
-    let places = width(text, at);
-    if places < text.len() - at {
-        return at + places;
-    }
-    text.len()
-}
+impl Iterator for Meant<'_> {
+    type Item = u8;
 
-// Puts the bytes that a text means into memory, as far as they fit, and answers how many there are.
-pub fn put(rt: &impl Print, text: &[u8], memory: &mut [u8]) -> io::Result<usize>
-    ensures ok { IfOk result (λ n. IsPrefixLen n memory.new) }
-    ensures err { IfErr result (λ e. length memory.new ≡ length memory.old) }
-{
-    let mut at = 0;
-    let mut count = 0;
-    while at < text.len() {
-        if memory.len() <= count {
-            printing::cut(rt)?;
-            return Ok(count);
-        }
-        memory[count] = meant(text, at);
-        count += 1;
-        at = after(text, at);
+    ghost remaining = { λ s. at_most (length s.text.now) };
+
+    // Any other glyph after a \ is passed over alone, though it stands for the two digits after it.
+    fn next(&mut self) -> Option<u8> {
+        let (meant, width) = match self.text {
+            [] => return None,
+            [b'\\', b'n', ..] => (b'\n', 2),
+            [b'\\', b't', ..] => (b'\t', 2),
+            [b'\\', b'r', ..] => (b'\r', 2),
+            [b'\\', b'x', digits @ ..] => (byte(digits), 4),
+            [b'\\', _, digits @ ..] => (byte(digits), 2),
+            [b'\\'] => (0, 1),
+            [plain, ..] => (*plain, 1),
+        };
+        self.text = &self.text[self.text.len().min(width)..];
+        Some(meant)
     }
-    Ok(count)
 }

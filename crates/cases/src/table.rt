@@ -1,13 +1,17 @@
 // A table of cases: a heading, then a line for each case, with tabs between its fields, which are counted from 0. A field is a number, a list
 // of numbers with blanks between them, or text with escapes.
-ghost use Rattle.std.specs.Prelude.{◌≤◌, ◌<◌, ◌≡◌, length, IfOk, IfErr};
+ghost use Rattle.std.specs.Prelude.{◌≤◌, ◌≡◌, ◌==◌, [], slice_get, unwrap_or, length, IfOk, IfErr};
+ghost use Rattle.std.specs.Iterator.{IsFinite};
+ghost use Rattle.std.specs.List.{slice_split};
 ghost use Rattle.cases.specs.Counts.{IsPrefixLen};
 
-use crate::{escapes, printing, scan};
+use crate::escapes::Meant;
+use crate::printing;
 use std::io;
 use std::io::Read;
 
-// Reads until the memory is full or the input ends, and answers how many bytes it put at the start.
+// Reads until the memory is full or the input ends, and answers how many bytes it put at the start. Each read hops as far as it was given
+// bytes, so this is no `for`.
 fn read_full(input: &mut impl Read, memory: &mut [u8]) -> io::Result<usize>
     ensures ok { IfOk result (λ n. IsPrefixLen n memory.new) }
     ensures err { IfErr result (λ e. length memory.new ≡ length memory.old) }
@@ -23,112 +27,70 @@ fn read_full(input: &mut impl Read, memory: &mut [u8]) -> io::Result<usize>
     Ok(done)
 }
 
-// The lines after the heading.
-pub fn read<'a>(rt: &(impl Input + Print), memory: &'a mut [u8]) -> io::Result<&'a [u8]> {
-    let mut input = rt.reader();
-    let count = read_full(&mut input, memory)?;
+// Reads the table, and runs a case for each line after the heading.
+pub fn run<F: FnMut(&[u8]) -> io::Result<()>>(
+    rt: &(impl Input + Print),
+    mut case: F,
+) -> io::Result<()>
+    requires { F.IsAlwaysCallable case }
+{
+    let mut memory = [0u8; 65536];
+    let count = read_full(&mut rt.reader(), &mut memory)?;
     if memory.len() <= count {
         printing::cut(rt)?;
     }
-    let whole = &memory[..];
-    let table = &whole[..count];
-    let start = scan::past(table, 0, b'\n');
-    Ok(&table[start..])
-}
-
-// The line that starts at a place.
-pub fn line(lines: &[u8], at: usize) -> &[u8]
-    requires { at < length lines.now }
-{
-    scan::until(lines, at, b'\n')
-}
-
-// Where the next line starts.
-pub fn next(lines: &[u8], at: usize) -> usize
-    requires { at < length lines.now }
-    ensures { (at < result) × (result ≤ length lines.now) }
-{
-    scan::past(lines, at, b'\n')
-}
-
-// Where the field k starts.
-fn start(line: &[u8], k: usize) -> usize
-    ensures { result ≤ length line.now }
-{
-    let mut at = 0;
-    for _ in 0..k {
-        at = scan::past(line, at, b'\t');
+    let table = &memory[..count];
+    for line in table.split_inclusive(|b| *b == b'\n').skip(1) {
+        case(line.strip_suffix(b"\n").unwrap_or(line))?;
     }
-    at
+    Ok(())
 }
 
-// The field k, as it stands.
-pub fn field(line: &[u8], k: usize) -> &[u8] {
-    let at = start(line, k);
-    scan::until(line, at, b'\t')
+// The field k, as it stands; nothing where the line has no such field.
+pub fn field(line: &[u8], k: usize) -> &[u8]
+    ensures { result.now ≡ unwrap_or (slice_get (slice_split (λ b. b == 9) line.now) k) [] }
+{
+    line.split(|b| *b == b'\t').nth(k).unwrap_or(&[])
 }
 
 // A number with one digit more. Where that has over 32 bits, or the byte is no digit, it stays.
 fn extended(value: u32, digit: u8) -> u32 {
-    if digit < b'0' {
-        return value;
+    match digit {
+        b'0'..=b'9' => value
+            .checked_mul(10)
+            .and_then(|tens| tens.checked_add(u32::from(digit - b'0')))
+            .unwrap_or(value),
+        _ => value,
     }
-    if b'9' < digit {
-        return value;
-    }
-    let longer = (value as u64) * 10 + ((digit - b'0') as u64);
-    if 4294967295 < longer {
-        return value;
-    }
-    longer as u32
 }
 
 fn value(digits: &[u8]) -> u32 {
-    let mut n = 0;
-    let mut i = 0;
-    while i < digits.len() {
-        n = extended(n, digits[i]);
-        i += 1;
-    }
-    n
+    digits.iter().fold(0, |n, digit| extended(n, *digit))
 }
 
 fn low(n: u32) -> u8 {
     (n % 256) as u8
 }
 
-fn put_bytes(rt: &impl Print, list: &[u8], memory: &mut [u8]) -> io::Result<usize>
+// Puts items into memory, as far as they fit, and answers how many there are, which is why it counts them.
+fn put<T: Copy, I: Iterator<Item = T> + Drop>(
+    rt: &impl Print,
+    items: I,
+    memory: &mut [T],
+) -> io::Result<usize>
+    requires can { I.can_next items }
+    requires ends { IsFinite (I.remaining items) }
     ensures ok { IfOk result (λ n. IsPrefixLen n memory.new) }
     ensures err { IfErr result (λ e. length memory.new ≡ length memory.old) }
 {
-    let mut at = 0;
     let mut count = 0;
-    while at < list.len() {
+    for item in items {
         if memory.len() <= count {
             printing::cut(rt)?;
-            return Ok(count);
+            break;
         }
-        memory[count] = low(value(scan::until(list, at, b' ')));
+        memory[count] = item;
         count += 1;
-        at = scan::past(list, at, b' ');
-    }
-    Ok(count)
-}
-
-fn put_words(rt: &impl Print, list: &[u8], memory: &mut [u32]) -> io::Result<usize>
-    ensures ok { IfOk result (λ n. IsPrefixLen n memory.new) }
-    ensures err { IfErr result (λ e. length memory.new ≡ length memory.old) }
-{
-    let mut at = 0;
-    let mut count = 0;
-    while at < list.len() {
-        if memory.len() <= count {
-            printing::cut(rt)?;
-            return Ok(count);
-        }
-        memory[count] = value(scan::until(list, at, b' '));
-        count += 1;
-        at = scan::past(list, at, b' ');
     }
     Ok(count)
 }
@@ -144,10 +106,12 @@ pub fn bytes<'a>(
     line: &[u8],
     k: usize,
     memory: &'a mut [u8],
-) -> io::Result<&'a [u8]> {
-    let count = put_bytes(rt, field(line, k), memory)?;
-    let whole = &memory[..];
-    Ok(&whole[..count])
+) -> io::Result<&'a [u8]>
+    ensures { IfOk result (λ s. length s.now ≤ length memory.old) }
+{
+    let numbers = field(line, k).split_inclusive(|b| *b == b' ');
+    let count = put(rt, numbers.map(|digits| low(value(digits))), memory)?;
+    Ok(&memory[..count])
 }
 
 // As a list of words.
@@ -156,10 +120,12 @@ pub fn words<'a>(
     line: &[u8],
     k: usize,
     memory: &'a mut [u32],
-) -> io::Result<&'a [u32]> {
-    let count = put_words(rt, field(line, k), memory)?;
-    let whole = &memory[..];
-    Ok(&whole[..count])
+) -> io::Result<&'a [u32]>
+    ensures { IfOk result (λ s. length s.now ≤ length memory.old) }
+{
+    let numbers = field(line, k).split_inclusive(|b| *b == b' ');
+    let count = put(rt, numbers.map(value), memory)?;
+    Ok(&memory[..count])
 }
 
 // As text.
@@ -168,64 +134,23 @@ pub fn text<'a>(
     line: &[u8],
     k: usize,
     memory: &'a mut [u8],
-) -> io::Result<&'a [u8]> {
-    let count = escapes::put(rt, field(line, k), memory)?;
-    let whole = &memory[..];
-    Ok(&whole[..count])
+) -> io::Result<&'a [u8]>
+    ensures { IfOk result (λ s. length s.now ≤ length memory.old) }
+{
+    let text = field(line, k);
+    let count = put(rt, Meant { text }, memory)?;
+    Ok(&memory[..count])
 }
 
-// As many of the first bytes of some memory as the field k says.
-pub fn lent_bytes<'a>(
+// As many of the first items of some memory as the field k says.
+pub fn lent<'a, T>(
     rt: &impl Print,
     line: &[u8],
     k: usize,
-    memory: &'a mut [u8],
-) -> io::Result<&'a mut [u8]> {
-    let count = number(line, k) as usize;
-    if memory.len() < count {
-        printing::cut(rt)?;
-        return Ok(memory);
-    }
-    Ok(&mut memory[..count])
-}
-
-// The same of 16-bit entries.
-pub fn lent_entries<'a>(
-    rt: &impl Print,
-    line: &[u8],
-    k: usize,
-    memory: &'a mut [u16],
-) -> io::Result<&'a mut [u16]> {
-    let count = number(line, k) as usize;
-    if memory.len() < count {
-        printing::cut(rt)?;
-        return Ok(memory);
-    }
-    Ok(&mut memory[..count])
-}
-
-// The same of 16-bit entries with a sign.
-pub fn lent_contrasts<'a>(
-    rt: &impl Print,
-    line: &[u8],
-    k: usize,
-    memory: &'a mut [i16],
-) -> io::Result<&'a mut [i16]> {
-    let count = number(line, k) as usize;
-    if memory.len() < count {
-        printing::cut(rt)?;
-        return Ok(memory);
-    }
-    Ok(&mut memory[..count])
-}
-
-// The same of words.
-pub fn lent_words<'a>(
-    rt: &impl Print,
-    line: &[u8],
-    k: usize,
-    memory: &'a mut [u32],
-) -> io::Result<&'a mut [u32]> {
+    memory: &'a mut [T],
+) -> io::Result<&'a mut [T]>
+    ensures { IfOk result (λ s. length s.now ≤ length memory.old) }
+{
     let count = number(line, k) as usize;
     if memory.len() < count {
         printing::cut(rt)?;

@@ -18,7 +18,7 @@ pub const MOST_GAP: u32 = 256;
 
 pub const WORDS_A_PIXEL: usize = 7;
 
-#[derive(Clone, Copy)]
+#[derive(Clone, Copy, Debug, PartialEq, Eq, Hash)]
 pub enum Cause {
     Sides,
     PictureLength,
@@ -41,29 +41,32 @@ pub enum Cause {
     Gap,
 }
 
-pub fn number(cause: Cause) -> u32
-    ensures answer { result ≡ number_of cause }
-{
-    match cause {
-        Cause::Sides => 1,
-        Cause::PictureLength => 2,
-        Cause::Attribute => 3,
-        Cause::Steps => 4,
-        Cause::Workspace => 5,
-        Cause::Output => 6,
-        Cause::Buffer => 7,
-        Cause::Sign => 8,
-        Cause::Header => 9,
-        Cause::Maximum => 10,
-        Cause::RasterLength => 11,
-        Cause::Sample => 12,
-        Cause::StepsFile => 13,
-        Cause::TooLarge => 14,
-        Cause::NotRead => 15,
-        Cause::View => 16,
-        Cause::Neighbours => 17,
-        Cause::PictureNumber => 18,
-        Cause::Gap => 19,
+// The number that a host is told.
+impl From<Cause> for u32 {
+    ghost from_gives = { λ cause number. number ≡ number_of cause };
+
+    fn from(cause: Cause) -> u32 {
+        match cause {
+            Cause::Sides => 1,
+            Cause::PictureLength => 2,
+            Cause::Attribute => 3,
+            Cause::Steps => 4,
+            Cause::Workspace => 5,
+            Cause::Output => 6,
+            Cause::Buffer => 7,
+            Cause::Sign => 8,
+            Cause::Header => 9,
+            Cause::Maximum => 10,
+            Cause::RasterLength => 11,
+            Cause::Sample => 12,
+            Cause::StepsFile => 13,
+            Cause::TooLarge => 14,
+            Cause::NotRead => 15,
+            Cause::View => 16,
+            Cause::Neighbours => 17,
+            Cause::PictureNumber => 18,
+            Cause::Gap => 19,
+        }
     }
 }
 
@@ -71,17 +74,7 @@ pub fn number(cause: Cause) -> u32
 pub fn fit(width: u32, height: u32) -> bool
     ensures answer { result ≡ sides_fit width height }
 {
-    if width < 1 {
-        return false;
-    }
-    if LONGEST_SIDE < width {
-        return false;
-    }
-    if height < 1 {
-        return false;
-    }
-    if LONGEST_SIDE < height {
-        return false;
-    }
-    width * height <= MOST_PIXELS
+    (1..=LONGEST_SIDE).contains(&width)
+        && (1..=LONGEST_SIDE).contains(&height)
+        && width * height <= MOST_PIXELS
 }

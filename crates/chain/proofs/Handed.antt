@@ -1,5 +1,6 @@
 -- What the calls of a chain hand on: each picture of a chain is the opening of the original by the largest values of the triples accepted so far,
 -- and the falls of a pixel are those of its openings.
+use Rattle.std.specs.Prelude.{Ok}
 use Prim.Native.Nat.{ℕ, ◌+◌, ◌-◌, ◌≤◌, ◌<◌}
 use mathlib.Core.Bool.{Bool, true, false, cond}
 use mathlib.Core.List.{List, [], ◌∷◌, map}
@@ -24,14 +25,13 @@ use Rattle.calls.specs.Steps.{step_triple}
 use Rattle.calls.specs.Judging.{may_follow, rising_triples}
 use Rattle.calls.specs.Calls.{grey, opened_picture, OpenCall, open_verdict, open_output}
 use Rattle.calls.specs.declared.Step.{Step}
-use Rattle.calls.specs.declared.Verdict.TheVariants.{Accepted}
 use Rattle.calls.proofs.Accepted.{open_passed, bounded, accepted_verdict}
 use Rattle.calls.proofs.Steps.{step_same, follows}
 use Rattle.chain.specs.Chain.{Call, given_to, verdict, accepted, handed_on, chain_picture, accepted_steps, chain_falls, EachAccepted, OnGrid}
 use Rattle.chain.specs.Mixed.{accepted_triples, largest_of}
 
 -- the output of an accepted opening call is the picture opened by the triple of its step
-pub output_accepted : (call : OpenCall) → open_verdict call ≡ Accepted
+pub output_accepted : (call : OpenCall) → open_verdict call ≡ Ok tt
     → open_output call ≡ opened_picture call.grid (meets call.grid (step_triple call.step)) call.picture
 unfolding open_output
 output_accepted call ok = rw (ok, step_same call.grid call.step)

@@ -1,4 +1,6 @@
 -- The claim about chains of openings by attribute or by triple: a chain's picture against the single opening, both as levelings, and the chain's maps.
+use Rattle.std.specs.Prelude.{Ok, Err}
+use Rattle.calls.specs.Judging.{Verdict}
 use Prim.Native.Nat.{ℕ, ◌≤◌, ◌<◌}
 use mathlib.Core.Bool.{Bool, true, false, true≢false, false≢true}
 use mathlib.Core.List.{List, [], ◌∷◌}
@@ -32,8 +34,6 @@ use Rattle.calls.specs.Judging.{triples_good, accepted as is_accepted, verdict_n
 use Rattle.calls.specs.Calls.{grey, opening_of, open_verdict, open_output, MapCall, mapping_of, kept_by, residue_map, index_map}
 use Rattle.calls.specs.declared.Step.{Step}
 use Rattle.calls.specs.declared.Kind.TheVariants.{Triples}
-use Rattle.calls.specs.declared.Verdict.{Verdict}
-use Rattle.calls.specs.declared.Verdict.TheVariants.{Accepted, Refused}
 use Rattle.calls.proofs.Accepted.{bounded, maps_accepted}
 use Rattle.calls.proofs.Steps.{words_read, triple_list}
 use Rattle.chain.specs.Chain.{Call, verdict, accepted, answered, handed_on, chain_picture, chain_falls, chain_residues, chain_indices, MapsWritten, EachAccepted, OnGrid, Equal, Whole}
@@ -42,12 +42,12 @@ use Rattle.chain.proofs.Handed.{OpenedAt, opened_picture_at, output_accepted, ha
 
 -- what a refused call answers
 refused_number : (judged : Verdict) → is_accepted judged ≡ false
-    → (cause : Cause) × (judged ≡ Refused cause) × (verdict_numbers judged ≡ number_of cause ∷ [])
-refused_number Accepted e = let clash : ◌≡◌ {A = ℕ} 0 1 = cc in absurd (omega arith)
-refused_number (Refused cause) e = (cause, refl, refl)
+    → (cause : Cause) × (judged ≡ Err cause) × (verdict_numbers judged ≡ number_of cause ∷ [])
+refused_number (Ok done) e = let clash : ◌≡◌ {A = ℕ} 0 1 = cc in absurd (omega arith)
+refused_number (Err cause) e = (cause, refl, refl)
 
 refused_answer : (given : List ℕ) (call : Call) → accepted given call ≡ false
-    → (cause : Cause) × (verdict given call ≡ Refused cause) × (answered given call ≡ number_of cause ∷ []) × (handed_on given call ≡ given)
+    → (cause : Cause) × (verdict given call ≡ Err cause) × (answered given call ≡ number_of cause ∷ []) × (handed_on given call ≡ given)
 unfolding accepted answered
 refused_answer given call refused =
     let (cause, judged, number) = refused_number (verdict given call) refused in
@@ -116,7 +116,7 @@ module _ (grid : Grid) (original : List ℕ) where
       )
 
   -- the single opening is the opening by the triple of its step
-  single_opened : (step : Step) (workspace output : List ℕ) → open_verdict (opening_of original grid step workspace output) ≡ Accepted
+  single_opened : (step : Step) (workspace output : List ℕ) → open_verdict (opening_of original grid step workspace output) ≡ Ok tt
       → OpenedAt grid (step_triple step) (grey original) (open_output (opening_of original grid step workspace output))
   single_opened step workspace output ok =
       subst

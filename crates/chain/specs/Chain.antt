@@ -1,4 +1,6 @@
 -- Chains of opening calls, and the claim about a whole chain of one attribute.
+use Rattle.std.specs.Prelude.{Ok, Err}
+use Rattle.calls.specs.Judging.{Verdict}
 use Rattle.std.specs.Prelude.{ℕ, ◌+◌, ◌-◌, ◌≤◌, ◌<◌, min, max, Bool, true, false, cond, List, [], ◌∷◌, map, ◌↔◌, ◌≡◌, length}
 use Rattle.sets.specs.Sets.{table, member}
 use Rattle.grid.specs.Pixels.{pixels}
@@ -16,8 +18,6 @@ use Rattle.calls.specs.Calls.{grey, node_attribute, OpenCall, opening_of, open_v
 use Rattle.calls.specs.declared.Step.{Step}
 use Rattle.calls.specs.declared.Step.TheVariants.{Threshold, Three}
 use Rattle.calls.specs.declared.Kind.TheVariants.{Thresholds}
-use Rattle.calls.specs.declared.Verdict.{Verdict}
-use Rattle.calls.specs.declared.Verdict.TheVariants.{Accepted, Refused}
 
 -- an opening call of a chain: what it names and what it is lent. The picture it is given comes from the calls before it.
 pub record Call : Type 0 where
@@ -92,7 +92,7 @@ chain_indices n original calls = table n (λ (p : ℕ). largest_place (chain_fal
 -- both maps of a chain "equal, at every pixel, what an accepted map call [..] writes"
 abbrev pub MapsWritten : List ℕ → List Call → MapCall → Type 0
 MapsWritten original calls call =
-    map_verdict call ≡ Accepted
+    map_verdict call ≡ Ok tt
     → (chain_residues (pixels call.grid) original calls ≡ map_residue call) × (chain_indices (pixels call.grid) original calls ≡ map_index call)
 
 -- every accepted call of a chain is such a one; "refused ones may name any numbers and be lent any workspace and output"
@@ -141,18 +141,18 @@ pub record Claim (grid : Grid) (a : ℕ) (original : List ℕ) (calls : List Cal
   -- "A refused call answers the number due and hands on the picture it was given": due is the number of the cause that judging finds,
   -- the first that applies
   pub refused : (given : List ℕ) (call : Call) → accepted given call ≡ false
-      → (cause : Cause) × (verdict given call ≡ Refused cause) × (answered given call ≡ number_of cause ∷ []) × (handed_on given call ≡ given)
+      → (cause : Cause) × (verdict given call ≡ Err cause) × (answered given call ≡ number_of cause ∷ []) × (handed_on given call ≡ given)
   -- "The root is the node at the least grey: the whole picture." No other node is.
   pub root : (p : ℕ) → p < pixels grid → grey original p ≡ least_grey (pixels grid) (grey original) ↔ Whole grid original p
   -- the chain's picture and the single opening at t are equal exactly when no node other than the root has its attribute at or above
   -- the smaller and below the larger of t and the chain's largest threshold
-  pub equal : (t : ℕ) (workspace output : List ℕ) → open_verdict (opening_of original grid (Threshold a t) workspace output) ≡ Accepted
+  pub equal : (t : ℕ) (workspace output : List ℕ) → open_verdict (opening_of original grid (Threshold a t) workspace output) ≡ Ok tt
       → Equal (pixels grid) (chain_picture original calls) (open_output (opening_of original grid (Threshold a t) workspace output))
       ↔ NoNodeBetween grid a original t (largest_threshold original calls)
   -- the chain's picture is a leveling of the original
   pub chain_leveling : Leveling (pixels grid) (adjacent grid) (grey original) (grey (chain_picture original calls))
   -- and so is the single opening
-  pub single_leveling : (t : ℕ) (workspace output : List ℕ) → open_verdict (opening_of original grid (Threshold a t) workspace output) ≡ Accepted
+  pub single_leveling : (t : ℕ) (workspace output : List ℕ) → open_verdict (opening_of original grid (Threshold a t) workspace output) ≡ Ok tt
       → Leveling (pixels grid) (adjacent grid) (grey original) (grey (open_output (opening_of original grid (Threshold a t) workspace output)))
   -- subtraction hides a rise, so it is said that there is none: the falls of a pixel at the accepted calls and its grey in the chain's
   -- picture add up to the grey that it had

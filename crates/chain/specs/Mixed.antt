@@ -1,4 +1,5 @@
 -- Chains of openings by attribute or by triple in any mixture, and the claim about a whole chain of them.
+use Rattle.std.specs.Prelude.{Ok, Err}
 use Rattle.std.specs.Prelude.{ℕ, ◌+◌, ◌<◌, Bool, true, false, List, [], ◌∷◌, map, ◌↔◌, ◌⊎◌, ◌≡◌, length}
 use Rattle.sets.specs.Sets.{member}
 use Rattle.grid.specs.Pixels.{pixels}
@@ -18,7 +19,6 @@ use Rattle.calls.specs.Judging.{triples_good}
 use Rattle.calls.specs.Calls.{grey, opening_of, open_verdict, open_output, mapping_of}
 use Rattle.calls.specs.declared.Step.{Step}
 use Rattle.calls.specs.declared.Kind.TheVariants.{Triples}
-use Rattle.calls.specs.declared.Verdict.TheVariants.{Accepted, Refused}
 use Rattle.chain.specs.Chain.{Call, verdict, accepted, answered, handed_on, chain_picture, accepted_steps, chain_falls, MapsWritten, EachAccepted, OnGrid, Equal, Whole}
 
 -- A chain "not bound to one attribute": its accepted calls open by any steps, and name its width, height and neighbourhood; refused ones may name
@@ -57,18 +57,18 @@ NoNodeMeetsOne grid picture t u =
 pub record MixedClaim (grid : Grid) (original : List ℕ) (calls : List Call) : Type 0 where
   -- "A refused call answers the number due and hands on the picture it was given"
   pub refused : (given : List ℕ) (call : Call) → accepted given call ≡ false
-      → (cause : Cause) × (verdict given call ≡ Refused cause) × (answered given call ≡ number_of cause ∷ []) × (handed_on given call ≡ given)
+      → (cause : Cause) × (verdict given call ≡ Err cause) × (answered given call ≡ number_of cause ∷ []) × (handed_on given call ≡ given)
   -- "The root is the node at the least grey: the whole picture." No other node is.
   pub root : (p : ℕ) → p < pixels grid → grey original p ≡ least_grey (pixels grid) (grey original) ↔ Whole grid original p
   -- "A chain of such openings [..] equals a single one exactly when no node but the root meets just one of the two: the single triple, and the
   -- largest value in each part over the chain's accepted calls, three zeros if none."
-  pub equal : (step : Step) (workspace output : List ℕ) → open_verdict (opening_of original grid step workspace output) ≡ Accepted
+  pub equal : (step : Step) (workspace output : List ℕ) → open_verdict (opening_of original grid step workspace output) ≡ Ok tt
       → Equal (pixels grid) (chain_picture original calls) (open_output (opening_of original grid step workspace output))
       ↔ NoNodeMeetsOne grid original (step_triple step) (largest_triple original calls)
   -- "Levelings and chains are judged by the neighbourhood named": the chain's picture is a leveling of the original
   pub chain_leveling : Leveling (pixels grid) (adjacent grid) (grey original) (grey (chain_picture original calls))
   -- and so is the single opening
-  pub single_leveling : (step : Step) (workspace output : List ℕ) → open_verdict (opening_of original grid step workspace output) ≡ Accepted
+  pub single_leveling : (step : Step) (workspace output : List ℕ) → open_verdict (opening_of original grid step workspace output) ≡ Ok tt
       → Leveling (pixels grid) (adjacent grid) (grey original) (grey (open_output (opening_of original grid step workspace output)))
   -- the falls of a pixel at the accepted calls and its grey in the chain's picture add up to the grey that it had: no fall hides a rise
   pub falls : (p : ℕ) → p < pixels grid → total (chain_falls original calls p) + grey (chain_picture original calls) p ≡ grey original p

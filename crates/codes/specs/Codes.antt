@@ -2,8 +2,10 @@
 -- else the cause's number times 2^32. No value reaches 2^32 but where the raster starts, which stands in the head.
 use Rattle.std.specs.Prelude.{ℕ, ◌*◌, ◌^◌, cond, List, [], ◌∷◌, eqb}
 use Rattle.std.proofs.lemmas.List.Edits.{sets}
-use Rattle.pgm_read.specs.declared.Found.{Found}
-use Rattle.pgm_read.specs.declared.Found.TheVariants.{Picture, Refused}
+use Rattle.std.specs.Prelude.{Result}
+use Rattle.causes.specs.declared.Cause.{Cause}
+use Rattle.pgm_read.specs.declared.Picture.{Picture}
+use Rattle.std.specs.Prelude.{Ok, Err}
 
 -- values are below it, causes are counted in it
 abbrev pub value_limit : ℕ
@@ -21,6 +23,6 @@ number_code [] = 0
 number_code (number ∷ values) = number * 2 ^ 32
 
 -- the four words of the head hold width, height, maximum and where the raster starts in the file; a refusal leaves them as they were
-abbrev pub head_with : Found → List ℕ → List ℕ
-head_with (Picture width height maximum start) head = sets head 0 (width ∷ height ∷ maximum ∷ start ∷ [])
-head_with (Refused cause) head = head
+abbrev pub head_with : Result Picture Cause → List ℕ → List ℕ
+head_with (Ok p) head = sets head 0 (p.width ∷ p.height ∷ p.maximum ∷ p.start ∷ [])
+head_with (Err cause) head = head

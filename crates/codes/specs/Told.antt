@@ -7,9 +7,10 @@ use Rattle.calls.specs.Reversed.{reversed_call}
 use Rattle.calls.specs.Combined.{combined_verdict}
 use Rattle.viewer.specs.View.{viewed, viewed_numbers}
 use Rattle.pgm_read.specs.Read.{found_numbers}
-use Rattle.pgm_read.specs.declared.Found.{Found}
+use Rattle.std.specs.Prelude.{Result}
+use Rattle.causes.specs.declared.Cause.{Cause}
+use Rattle.pgm_read.specs.declared.Picture.{Picture}
 use Rattle.pgm_write.specs.Write.{write_answer, written_numbers}
-use Rattle.pgm_write.specs.declared.Written.{Written}
 use Rattle.codes.specs.Codes.{value_limit, code_of, number_code, head_with}
 
 -- the number of an answer, and its value, 0 where it has none
@@ -45,19 +46,19 @@ pub record WriteCall : Type 0 where
   pub maximum : ℕ
   pub buffer : List ℕ
 
-abbrev pub written : WriteCall → Written
+abbrev pub written : WriteCall → Result ℕ Cause
 written call = write_answer call.picture call.width call.height call.maximum (length call.buffer)
 
 -- of the reader's answers, whatever file and number they are for: the bits tell the number, and the head, of four words, the values
 pub record HeadTold : Type 0 where
-  pub told : (found : Found) → Told (number_code (found_numbers found)) (take 1 (found_numbers found))
+  pub told : (found : Result Picture Cause) → Told (number_code (found_numbers found)) (take 1 (found_numbers found))
   -- an accepted call leaves its values in the head
-  pub values : (found : Found) (head : List ℕ) → length head ≡ 4 → number_code (found_numbers found) < value_limit
+  pub values : (found : Result Picture Cause) (head : List ℕ) → length head ≡ 4 → number_code (found_numbers found) < value_limit
       → head_with found head ≡ drop 1 (found_numbers found)
   -- a refused one leaves it "as it was"
-  pub left : (found : Found) (head : List ℕ) → value_limit ≤ number_code (found_numbers found) → head_with found head ≡ head
+  pub left : (found : Result Picture Cause) (head : List ℕ) → value_limit ≤ number_code (found_numbers found) → head_with found head ≡ head
   -- two calls that answer the same bits and leave the same head have the same answer
-  pub same : (f g : Found) (head other : List ℕ) → length head ≡ 4 → length other ≡ 4
+  pub same : (f g : Result Picture Cause) (head other : List ℕ) → length head ≡ 4 → length other ≡ 4
       → number_code (found_numbers f) ≡ number_code (found_numbers g) → head_with f head ≡ head_with g other → f ≡ g
 
 -- every call of the C interface, accepted or refused, whatever it names and is lent; opening and mapping are by steps of either kind

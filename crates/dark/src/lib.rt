@@ -1,5 +1,6 @@
 // Dark floc on light water: the dark map call and the combined map call. Dark maps are the light ones of the reversed picture, whose bytes stand in the
-// lent residue map until the maps are made of the pairs; so the calls need no memory beyond what they are lent.
+// lent residue map until the maps are made of the pairs; so the calls need no memory beyond what they are lent. What they are told and lent comes one
+// by one, as the C interface and the definitions name it.
 #![tactic(auto)]
 
 ghost use Rattle.std.specs.Prelude.{ℕ, ◌≡◌, length, get_or};
@@ -13,18 +14,16 @@ ghost use Rattle.map_passes.specs.Passes.{pair_for, Holdable};
 ghost use Rattle.dark.specs.Merging.{merged};
 
 use calls::Kind;
+use causes::Cause;
 use grid::Grid;
 
-// The reversed picture: 255 less each grey.
+// The reversed picture: 255 less each grey. By position, since after a `zip` over `iter_mut` nothing is known of what was written.
 fn reverse(picture: &[u8], output: &mut [u8])
     requires { length output.old ≡ length picture.now }
     ensures { output.new ≡ reversed picture.now }
 {
-    let n = picture.len();
-    let mut p: usize = 0;
-    while p < n {
-        output[p] = 255 - picture[p];
-        p += 1;
+    for (p, byte) in output.iter_mut().enumerate() {
+        *byte = 255 - picture[p];
     }
 }
 
@@ -49,18 +48,17 @@ fn merge(n: usize, ws: &[u32], pairs: &mut [u16], contrasts: &mut [i16])
     ensures contrasts { contrasts.new ≡
         table n (λ (q : ℕ). contrast_of (total_in (get_or pairs.old q 0)) (total_in (pair_for n ws.now q))) }
 {
-    let mut p: usize = 0;
-    while p < n {
-        let light = pairs[p] as u32;
-        let k = ws[p] as usize;
-        let dark = ws[6 * n + k];
-        pairs[p] = map_passes::better(light, dark) as u16;
+    for (p, pair) in pairs.iter_mut().enumerate() {
+        let light = u32::from(*pair);
+        let dark = map_passes::pair_of(n, ws, p);
+        *pair = map_passes::better(light, dark) as u16;
         contrasts[p] = contrast(light, dark);
-        p += 1;
     }
 }
 
+// The map call with one step more: the picture that is sized is the reversed one, in the lent residue map. So two calls stand, here and in `residues`.
 // The residue map and the index map of dark floc: the light ones of 255 less each grey. The workspace holds the tree record of the reversed picture.
+#[tactic(auto, using(calls::proofs::Reversed::length_reversed), unfolding(calls::specs::Calls::map_workspace, calls::specs::Calls::map_residue, calls::specs::Calls::map_index))]
 pub fn dark_map(
     picture: &[u8],
     grid: Grid,
@@ -70,39 +68,34 @@ pub fn dark_map(
     workspace: &mut [u32],
     residue: &mut [u8],
     index: &mut [u16],
-) -> calls::Verdict
+) -> Result<(), Cause>
     ensures answer { verdict_numbers result ≡
         verdict_numbers (map_verdict (reversed_call (map_call picture.now grid kind steps.now gap workspace.old residue.old index.old))) }
     ensures workspace { workspace.new ≡ map_workspace (reversed_call (map_call picture.now grid kind steps.now gap workspace.old residue.old index.old)) }
     ensures residue { residue.new ≡ map_residue (reversed_call (map_call picture.now grid kind steps.now gap workspace.old residue.old index.old)) }
     ensures index { index.new ≡ map_index (reversed_call (map_call picture.now grid kind steps.now gap workspace.old residue.old index.old)) }
 {
-    let verdict = calls::judge_sizing(
+    let bytes = picture.len();
+    calls::judge_sizing(
         grid,
-        picture.len(),
+        bytes,
         kind,
         steps,
         gap,
         workspace.len(),
         residue.len(),
         index.len(),
-    );
-    match verdict {
-        calls::Verdict::Refused(cause) => {
-            return calls::Verdict::Refused(cause);
-        }
-        calls::Verdict::Accepted => {
-            reverse(picture, residue);
-            sizing::size(residue, grid, kind, steps, gap, workspace, index);
-            building::write_whole(residue, workspace);
-            map_passes::unpack(residue, index);
-            return calls::Verdict::Accepted;
-        }
-    }
+    )?;
+    reverse(picture, residue);
+    sizing::size(residue, grid, kind, steps, gap, workspace, index);
+    building::write_whole(residue, workspace);
+    map_passes::unpack(residue, index);
+    Ok(())
 }
 
 // Light and dark floc together: at each pixel the residue of the side where it is larger, its index, and the contrast. The picture is sized, and then
 // the reversed picture, whose tree record the workspace holds.
+#[tactic(auto, unfolding(calls::specs::Judging::also, calls::specs::Combined::combined_workspace, calls::specs::Combined::combined_residue, calls::specs::Combined::combined_index, calls::specs::Combined::combined_contrast))]
 pub fn combined_map(
     picture: &[u8],
     grid: Grid,
@@ -113,7 +106,7 @@ pub fn combined_map(
     residue: &mut [u8],
     index: &mut [u16],
     contrast: &mut [i16],
-) -> calls::Verdict
+) -> Result<(), Cause>
     ensures answer { verdict_numbers result ≡
         verdict_numbers (combined_verdict (map_call picture.now grid kind steps.now gap workspace.old residue.old index.old) contrast.old) }
     ensures workspace { workspace.new ≡
@@ -125,7 +118,7 @@ pub fn combined_map(
     ensures contrast { contrast.new ≡
         combined_contrast (map_call picture.now grid kind steps.now gap workspace.old residue.old index.old) contrast.old }
 {
-    let sizing = calls::judge_sizing(
+    calls::judge_sizing(
         grid,
         picture.len(),
         kind,
@@ -134,24 +127,13 @@ pub fn combined_map(
         workspace.len(),
         residue.len(),
         index.len(),
-    );
-    let verdict = calls::also(
-        sizing,
-        calls::entry_each(grid, contrast.len()),
-        causes::Cause::Output,
-    );
-    match verdict {
-        calls::Verdict::Refused(first) => {
-            return calls::Verdict::Refused(first);
-        }
-        calls::Verdict::Accepted => {
-            sizing::size(picture, grid, kind, steps, gap, workspace, index);
-            reverse(picture, residue);
-            sizing::settle(residue, grid, kind, steps, gap, workspace);
-            merge(residue.len(), workspace, index, contrast);
-            building::write_whole(residue, workspace);
-            map_passes::unpack(residue, index);
-            return calls::Verdict::Accepted;
-        }
-    }
+    )?;
+    calls::check(calls::entry_each(grid, contrast.len()), Cause::Output)?;
+    sizing::size(picture, grid, kind, steps, gap, workspace, index);
+    reverse(picture, residue);
+    sizing::settle(residue, grid, kind, steps, gap, workspace);
+    merge(residue.len(), workspace, index, contrast);
+    building::write_whole(residue, workspace);
+    map_passes::unpack(residue, index);
+    Ok(())
 }

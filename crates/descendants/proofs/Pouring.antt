@@ -172,24 +172,6 @@ module _ (a : ℕ) {n : ℕ} {adj : Adjacency} (symm : Symmetric adj) {g num up 
         other
         (first_apart N (up (closed i)) k (N.up_within (closed i) here) c (sym (parent_first N (closed i) here) ∙ z))))))
 
--- what one addition leaves of the words of the nodes: at the root of the tree, and at another node
-pub poured_last : (a k p : ℕ) (words : List ℕ) (y : ℕ) → p ≡ k → y ≡ measured a (held_in words k) → set words (held_at k) y ≡ poured_at a k p words
-poured_last a k p words y own e = rw (eq-eqb p k own) (ap (set words (held_at k)) e)
-
-module _ (a k p : ℕ) (words : List ℕ) (y : ℕ) (ne : p ≡ k → ⊥) where
-  -- the parent's accumulator, once the word of k is written
-  pub up_read : held_in (set words (held_at k) y) p ≡ held_in words p
-  up_read = get_or-set_other words (held_at k) (held_at p) y 0 (λ z. ne (omega arith))
-
-  pub poured_up : (z : ℕ) → y ≡ measured a (held_in words k) → z ≡ combined a (held_in (set words (held_at k) y) p) (held_in words k) → set (set words (held_at k) y) (held_at p) z ≡ poured_at a k p words
-  poured_up z e f =
-      rw
-      (ne_eqb p k ne)
-      (ap (λ (x : ℕ). set (set words (held_at k) x) (held_at p) z) e
-      ∙ ap
-      (set (set words (held_at k) (measured a (held_in words k))) (held_at p))
-      (f ∙ ap (λ (x : ℕ). combined a x (held_in words k)) up_read))
-
 -- the words of the nodes as they are lent
 module _ (n : ℕ) (ws : List ℕ) (long : length ws ≡ words_a_pixel * n) where
   abbrev part : List ℕ
@@ -269,7 +251,6 @@ module _ (n : ℕ) (ws : List ℕ) (long : length ws ≡ words_a_pixel * n) wher
         (decided (eqb p k)))
 
 pub record Pouring (a : ℕ) (picture ws₀ : List ℕ) (m : ℕ) (ws : List ℕ) (i : ℕ) : Type 0 where
-  pub top : i ≤ m
   pub words : length ws ≡ length ws₀
   pub before : (k : ℕ) → k < 3 * length picture → get_or ws k 0 ≡ get_or ws₀ k 0
   pub lowests : (k : ℕ) → k < m → lowest_of (length picture) ws k ≡ lowest_of (length picture) ws₀ k
@@ -281,7 +262,6 @@ pub record Pouring (a : ℕ) (picture ws₀ : List ℕ) (m : ℕ) (ws : List ℕ
 pub pouring_none : {a : ℕ} {picture ws₀ : List ℕ} {m : ℕ} → Pouring a picture ws₀ m ws₀ 0
 pouring_none {a} {picture} {ws₀} {m} =
     record {
-      top = omega arith;
       words = refl;
       before = λ k b. refl;
       lowests = λ k b. refl;
@@ -333,9 +313,6 @@ module _ {a : ℕ} {picture ws₀ : List ℕ} {m : ℕ} (start : Pourable a pict
 
   parent_is : up_of n ws k ≡ p
   parent_is = W.ups k k_within
-
-  pub within : closed_of n ws i < n
-  within = rw number_is k_low
 
   words : length ws ≡ words_a_pixel * n
   words = W.words ∙ start.sized.words
@@ -421,7 +398,6 @@ module _ {a : ℕ} {picture ws₀ : List ℕ} {m : ℕ} (start : Pourable a pict
   step : Pouring a picture ws₀ m ws' (i + 1)
   step =
       record {
-        top = omega arith;
         words = at_words n ws words a k p k_low p_low ∙ W.words;
         before = λ w c. at_else n ws words a k p k_low p_low w (λ z. omega arith) (λ z. omega arith) ∙ W.before w c;
         lowests =

@@ -1,4 +1,5 @@
-// The pass over the descendants of the nodes: each node's accumulator is added to its parent's, and the attribute is read from it.
+// The pass over the descendants of the nodes: each node's accumulator is added to its parent's, and the attribute is read from it. It comes
+// as its number, as in the definitions.
 #![tactic(auto)]
 
 ghost use Rattle.std.specs.Prelude.{◌≡◌};
@@ -12,11 +13,9 @@ fn pour(attribute: u32, k: usize, p: usize, words: &mut [u32])
 {
     let held = words[3 * k + 2];
     words[3 * k + 2] = accumulators::measure(attribute, held);
-    if p == k {
-        return;
+    if p != k {
+        words[3 * p + 2] = accumulators::combine(attribute, words[3 * p + 2], held);
     }
-    let sum = accumulators::combine(attribute, words[3 * p + 2], held);
-    words[3 * p + 2] = sum;
 }
 
 // The attribute of each node: every node is added to its parent, in the order of closing. The words of the nodes, parts 4 to 6, are lent on.
@@ -25,11 +24,9 @@ pub fn descendants(picture: &[u8], attribute: u32, nodes: usize, ws: &mut [u32])
     ensures { Poured attribute picture.now ws.old ws.new nodes }
 {
     let n = picture.len();
-    let mut i = 0;
-    while i < nodes {
+    for i in 0..nodes {
         let k = (ws[n + i] / 256) as usize;
         let p = ws[3 * n + 3 * k + 1] as usize;
         pour(attribute, k, p, &mut ws[3 * n..6 * n]);
-        i += 1;
     }
 }

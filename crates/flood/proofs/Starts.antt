@@ -1,12 +1,11 @@
 -- The flood's start on the lists: the levels counted, the numbers filled, and the first pixel in its queue.
-use Prim.Native.Nat.{ℕ, suc, ◌+◌, ◌-◌, ◌/◌, ◌%◌, ◌^◌, ◌≤◌, ◌<◌}
+use Prim.Native.Nat.{ℕ, ◌/◌, ◌%◌, ◌^◌, ◌≤◌, ◌<◌}
 use mathlib.Core.List.{List, ◌++◌}
 use mathlib.Core.Path.{◌≡◌, refl, ◌∙◌}
 use native.Mathlib.Nat.{mul-pos, zero-div}
 use native.Mathlib.Omega.{arith}
 use lib.Dec.{ltb}
-use lib.ListN.{get_or, length, set, length-set, take, drop, replicate, length-append, length-take, length-drop, length-replicate, get_or-replicate, get_or-append}
-use lib.Seq.{get_or-set_same, get_or-set_other}
+use lib.ListN.{get_or, length, take, drop, replicate, length-append, length-take, length-drop, length-replicate, get_or-replicate, get_or-append}
 use Rattle.sets.proofs.Laws.{count_le}
 use Rattle.grid.specs.Neighbours.{adjacent}
 use Rattle.grid.specs.declared.Grid.{Grid}
@@ -14,14 +13,14 @@ use Rattle.sets.proofs.Tables.{table_long, table_read}
 use Rattle.causes.specs.Bounds.{most_pixels}
 use Rattle.levels.specs.Levels.{grey, darker, level_counts, entry_sum, starts_of}
 use Rattle.levels.specs.Workspace.{Sized}
-use Rattle.levels.proofs.Counts.{by_cases, equal_or_not}
 use Rattle.levels.proofs.Tables.{sum_darker}
 use Rattle.flooding.specs.Numbers.{Named}
 use Rattle.flooding.proofs.Beginning.{Untouched, begins, first_sound, first_at}
 use Rattle.flooding.proofs.Meeting.{tail_lt}
 use Rattle.flooding.proofs.Numbers.{named_none, taken_fits, Renamed, named_pushed}
 use Rattle.queues.specs.Marks.{Marked}
-use Rattle.queues.specs.Queues.{lists, numbers_of, state_of, Fitting, Placing}
+use Rattle.queues.specs.declared.Opened.{Opened}
+use Rattle.queues.specs.Queues.{Whole, lists, numbers_of, state_of, Fitting, Placing}
 use Rattle.visits.specs.Visits.{StandsAt}
 use Rattle.visits.proofs.Visits.{pushes}
 use Rattle.flood.specs.Calls.{Floodable}
@@ -42,63 +41,38 @@ counts_fit picture {counts} C small =
     )
 
 -- the first part filled
-module _ {n : ℕ} {ws : List ℕ} (part : List ℕ) (size : Sized n ws) (all : part ≡ replicate (length (take (n - 0) (drop 0 ws))) n) where
-  part_length : length (take (n - 0) (drop 0 ws)) ≡ n
-  part_length = simp (length-take, length-drop) (omega (arith, size.words))
+module _ {n : ℕ} {ws : List ℕ} (part : List ℕ) (size : Sized n ws) (all : part ≡ replicate (length (take n ws)) n) where
+  part_length : length (take n ws) ≡ n
+  part_length = simp length-take (omega (arith, size.words))
 
-  pub filled_sized : Sized n (part ++ drop (n - 0) (drop 0 ws))
+  pub filled_sized : Sized n (part ++ drop n ws)
   filled_sized =
       record {
         words = simp (all, length-append, length-replicate, length-drop) (omega (arith, size.words, part_length));
         small = size.small;
       }
 
-  pub filled_unmet : (q : ℕ) → q < n → get_or (part ++ drop (n - 0) (drop 0 ws)) q 0 ≡ n
+  pub filled_unmet : (q : ℕ) → q < n → get_or (part ++ drop n ws) q 0 ≡ n
   filled_unmet q h =
       rw
       (all, part_length)
       (get_or-append (replicate n n) _ 0 q (rw (length-replicate n n) h) ∙ get_or-replicate n q n 0 h)
 
--- the table with no level open: n for each number, an empty set, no number taken and no node closed
-abbrev pub none_open : ℕ → List ℕ
-none_open n = set (set (set (set (set (set (replicate 262 n) 256 0) 257 0) 258 0) 259 0) 260 0) 261 0
+-- no node is open: n for each number, an empty set, no number taken and no node closed
+abbrev pub none_open : ℕ → Opened
+none_open n = record { numbers = replicate 256 n; levels = replicate 4 0; taken = 0; closed = 0 }
 
--- no level has a number, and the first i words after the numbers are 0
-record Emptied (n i : ℕ) (xs : List ℕ) : Type 0 where
-  wide : length xs ≡ 262
-  number : (k : ℕ) → k < 256 → get_or xs k 0 ≡ n
-  word : (j : ℕ) → j < i → get_or xs (256 + j) 0 ≡ 0
+none_whole : (n : ℕ) → Whole (none_open n)
+none_whole n = record { numbers = length-replicate 256 n; levels = length-replicate {A = ℕ} 4 0 }
 
-all_closed : (n : ℕ) → Emptied n 0 (replicate 262 n)
-all_closed n =
-    record {
-      wide = length-replicate 262 n;
-      number = λ k h. get_or-replicate 262 k n 0 (omega arith);
-      word = λ j h. absurd (omega arith);
-    }
-
-one_more : {n : ℕ} {xs : List ℕ} (i : ℕ) → i < 6 → Emptied n i xs → Emptied n (suc i) (set xs (256 + i) 0)
-one_more {n} {xs} i h E =
-    record {
-      wide = length-set xs (256 + i) 0 ∙ E.wide;
-      number = λ k hk. get_or-set_other xs (256 + i) k 0 0 (λ e. omega arith) ∙ E.number k hk;
-      word = λ j hj.
-          by_cases
-          (equal_or_not j i)
-          (λ e. rw e (get_or-set_same xs (256 + i) 0 0 (omega (arith, E.wide))))
-          (λ ne. get_or-set_other xs (256 + i) (256 + j) 0 0 (λ e. ne (omega arith)) ∙ E.word j (omega arith));
-    }
-
-emptied : (n : ℕ) → Emptied n 6 (none_open n)
-emptied n =
-    let set_words = one_more 3 (omega arith) (one_more 2 (omega arith) (one_more 1 (omega arith) (one_more 0 (omega arith) (all_closed n)))) in
-    one_more 5 (omega arith) (one_more 4 (omega arith) set_words)
+pub none_numbered : (n k : ℕ) → k < 256 → get_or (none_open n).numbers k 0 ≡ n
+none_numbered n k h = get_or-replicate 256 k n 0 h
 
 none_marked : (n : ℕ) → Marked n (none_open n)
 none_marked n =
     record {
-      open_set = λ k h o. absurd (o ((emptied n).number k h));
-      closed_clear = λ k h e. rw ((emptied n).word (k / 64) (omega arith), zero-div (2 ^ (k % 64))) refl;
+      open_set = λ k h o. absurd (o (none_numbered n k h));
+      closed_clear = λ k h e. rw (get_or-replicate {A = ℕ} 4 (k / 64) 0 0 (omega arith), zero-div (2 ^ (k % 64))) refl;
     }
 
 module _ {grid : Grid} {picture ws ws₁ counts starts : List ℕ} (F : Floodable grid picture ws) (bytes : (x : ℕ) → grey picture x < 256)
@@ -127,8 +101,7 @@ module _ {grid : Grid} {picture ws ws₁ counts starts : List ℕ} (F : Floodabl
         Named (length picture) (grey picture) none none none
         (numbers_of (length picture) ws₁ (none_open (length picture)))
     unnamed =
-        let E = emptied (length picture) in
-        named_none (grey picture) none unmet_all E.number (E.word 4 (omega arith)) (E.word 5 (omega arith))
+        named_none (grey picture) none unmet_all (none_numbered (length picture)) refl refl
         (λ q h. refl)
         (λ l h. refl)
 
@@ -145,12 +118,12 @@ module _ {grid : Grid} {picture ws ws₁ counts starts : List ℕ} (F : Floodabl
                 level = bytes 0;
                 held = unnamed.opens (grey picture 0) (bytes 0);
                 left = λ e. taken_fits unnamed some (unmet_all 0 some);
-                wide = (emptied (length picture)).wide;
+                wide = none_whole (length picture);
                 marks = none_marked (length picture);
               };
         }
 
-    module _ {ws₂ tails opened : List ℕ}
+    module _ {ws₂ tails : List ℕ} {opened : Opened}
         (P : Placing (length picture) 0 (grey picture 0) ws₁ starts (none_open (length picture)) ws₂ tails opened)
       where
         first_named :

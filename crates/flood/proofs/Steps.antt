@@ -2,8 +2,9 @@
 use Prim.Native.Nat.{ℕ, suc, ◌+◌, ◌*◌, ◌-◌, ◌≤◌, ◌<◌}
 use mathlib.Core.Bool.{true}
 use mathlib.Core.List.{List}
-use mathlib.Core.Logic.{◌⊎◌, inl, inr}
-use mathlib.Core.Path.{◌≡◌, refl, ap, ◌∙◌}
+use mathlib.Core.Logic.{inl, inr}
+use mathlib.Core.Path.{◌≡◌, refl, ap, subst, ◌∙◌}
+use Rattle.std.specs.Prelude.{Option, Some, None}
 use native.Mathlib.Numerals.{add-one}
 use native.Mathlib.Omega.{arith}
 use lib.Dec.{ltb}
@@ -25,10 +26,11 @@ use Rattle.flooding.proofs.Ending.{ends}
 use Rattle.flooding.proofs.Finishing.{Empty, finished_sound, finished_at, finished_empty}
 use Rattle.flooding.proofs.Meeting.{tail_le}
 use Rattle.flooding.proofs.Numbers.{changed_once, close_fits, open_number, open_root, named_closed, named_ended}
+use Rattle.queues.specs.declared.Opened.{Opened}
 use Rattle.queues.specs.Queues.{Lists, lists, taken_of, state_of, NoneOpen, NextOpen, Closable, Shut, ClosedTo}
-use Rattle.visits.specs.Visits.{Ready, Standing, VisitedAround}
+use Rattle.visits.specs.Visits.{Ready, Standing, Visited, Moved}
 use Rattle.visits.proofs.Visits.{still, root_greys}
-use Rattle.flood.specs.Calls.{spent, NumberedBy, Leavable, Ended, Left}
+use Rattle.flood.specs.Calls.{spent, NumberedBy, Leavable, Left}
 
 -- the heads with that of level l moved on
 abbrev pub advanced : List ℕ → ℕ → List ℕ
@@ -51,7 +53,7 @@ module _ {grid : Grid} {picture : List ℕ} {s : Lists} {l p : ℕ} where
 
     -- where the same pixels are met
     spent_more :
-        (ws' opened' : List ℕ) → ((x : ℕ) → x < length picture → number_at ws' x ≡ number_at s.words x)
+        (ws' : List ℕ) (opened' : Opened) → ((x : ℕ) → x < length picture → number_at ws' x ≡ number_at s.words x)
         → spent (length picture) s < spent (length picture) (lists ws' (advanced s.heads l) s.tails opened')
     spent_more ws' opened' same =
         omega (
@@ -99,10 +101,10 @@ module _ {grid : Grid} {picture : List ℕ} {s : Lists} {l p : ℕ} where
             at = finished_at R.sound bytes (adjacent_symmetric grid) R.at M.stands.here neighbours_met advance more_left;
           }
 
-      pub goes_on : Left grid picture s (moved_on s l) l
-      goes_on = record { outcome = inl stays_ready; more = spent_more s.words s.opened (λ x h. refl) }
+      pub goes_on : Left grid picture s (moved_on s l) (Some l)
+      goes_on = record { outcome = inl (l, refl, stays_ready); more = spent_more s.words s.opened (λ x h. refl) }
 
-    open_here : get_or s.opened l 0 < length picture
+    open_here : get_or s.opened.numbers l 0 < length picture
     open_here = open_number R.named l R.at.level R.at.open_here
 
     pub closable : Closable (length picture) s.words s.opened l
@@ -124,13 +126,13 @@ module _ {grid : Grid} {picture : List ℕ} {s : Lists} {l p : ℕ} where
           finished_empty R.sound bytes (adjacent_symmetric grid) R.at M.stands.here neighbours_met advance none_left
 
       goes_below :
-          {ws'' opened'' : List ℕ} {m : ℕ} → length ws'' ≡ length s.words → NextOpen (length picture) s.opened l m
-          → Shut (length picture) s.words s.opened ws'' opened'' l (get_or s.opened m 0) (l - m)
+          {ws'' : List ℕ} {opened'' : Opened} {m : ℕ} → length ws'' ≡ length s.words → NextOpen (length picture) s.opened l m
+          → Shut (length picture) s.words s.opened ws'' opened'' l (get_or s.opened.numbers m 0) (l - m)
           → Ready grid picture (lists ws'' (advanced s.heads l) s.tails opened'') m
       goes_below {ws''} {opened''} {m} same_length N S =
           let n = length picture in
           let in_m : m < 256 = omega (arith, N.lower, R.at.level) in
-          let open_m : get_or s.opened m 0 < length picture = omega (arith, N.open_here, R.named.opens m in_m) in
+          let open_m : get_or s.opened.numbers m 0 < length picture = omega (arith, N.open_here, R.named.opens m in_m) in
           let root_m = open_root R.named m in_m open_m in
           let next : (k : ℕ) → m < k → k < l → length picture ≤ R.root k =
           λ k a b. omega (arith, R.named.no_node k (omega (arith, R.at.level)) (N.next k a b))
@@ -171,7 +173,7 @@ module _ {grid : Grid} {picture : List ℕ} {s : Lists} {l p : ℕ} where
         none_below : (k : ℕ) → k < l → length picture ≤ R.root k
         none_below k h = omega (arith, R.named.no_node k (omega (arith, R.at.level)) (none_open k h))
 
-        only : (k : ℕ) → k < 256 → get_or s.opened k 0 < length picture → k ≡ l
+        only : (k : ℕ) → k < 256 → get_or s.opened.numbers k 0 < length picture → k ≡ l
         only k h o =
             by_cases
             (below_or_not k l)
@@ -179,8 +181,8 @@ module _ {grid : Grid} {picture : List ℕ} {s : Lists} {l p : ℕ} where
             (λ ge. omega (arith, R.at.top k h (open_root R.named k h o)))
 
         ends_here :
-            {ws'' opened'' : List ℕ}
-            → Shut (length picture) s.words s.opened ws'' opened'' l (get_or s.opened l 0) 0
+            {ws'' : List ℕ} {opened'' : Opened}
+            → Shut (length picture) s.words s.opened ws'' opened'' l (get_or s.opened.numbers l 0) 0
             → NumberedBy grid picture ws'' (taken_of opened'')
         ends_here S =
             named_ended
@@ -196,30 +198,29 @@ module _ {grid : Grid} {picture : List ℕ} {s : Lists} {l p : ℕ} where
             (sound'.open_root l R.at.level R.at.open_here).own
             (ends sound' bytes emptied none_below (λ q a b. adjacent_before grid R.wide q a))
 
-      module _ {ws'' opened'' : List ℕ} {m : ℕ} (same_length : length ws'' ≡ length s.words)
-          (C : ClosedTo (length picture) s.words s.opened ws'' opened'' l m)
-        where
-          abbrev after : Lists
-          after = lists ws'' (advanced s.heads l) s.tails opened''
-
-          pub empties : Left grid picture s after m
-          empties =
-              record {
-                outcome =
-                    by_cases C (λ B. inl (goes_below same_length B.0 B.1)) (λ D. inr (D.0, ends_here D.1 D.2));
-                more = spent_more ws'' opened'' (by_cases C (λ B. B.1.shutting.num) (λ D. D.2.shutting.num));
-              }
+      pub empties :
+          {ws'' : List ℕ} {opened'' : Opened} (m : Option ℕ) → length ws'' ≡ length s.words
+          → ClosedTo (length picture) s.words s.opened ws'' opened'' l m
+          → Left grid picture s (lists ws'' (advanced s.heads l) s.tails opened'') m
+      empties {ws''} {opened''} None same_length C =
+          record { outcome = inr (refl, ends_here C.0 C.1); more = spent_more ws'' opened'' C.1.shutting.num }
+      empties {ws''} {opened''} (Some m) same_length C =
+          record { outcome = inl (m, refl, goes_below same_length C.0 C.1); more = spent_more ws'' opened'' C.1.shutting.num }
 
 -- one turn: the flood moves up or along, or leaves its pixel
-module _ {grid : Grid} {picture : List ℕ} {s s' : Lists} {p q : ℕ} (U : VisitedAround grid picture s s' p q) where
-  pub moves : (q ≡ p → ⊥) → spent (length picture) s < spent (length picture) s'
-  moves ne = rw U.same_heads (omega (arith, U.raised ne))
+module _ {grid : Grid} {picture : List ℕ} {s s' : Lists} {p : ℕ} where
+  pub moves : {q : ℕ} → Moved grid picture s s' p q (adjacent grid p) → spent (length picture) s < spent (length picture) s'
+  moves M = rw M.visited.same_heads (omega (arith, M.visited.raised M.away))
 
-  pub leavable : {l : ℕ} → Standing grid picture s l p → q ≡ p → Leavable grid picture s' l p
-  leavable S e = record { stands = still U S e; met = U.met e }
+  module _ (U : Visited grid picture s s' p p (adjacent grid p)) where
+    pub leavable : {l : ℕ} → Standing grid picture s l p → Leavable grid picture s' l p
+    leavable S = record { stands = still U S refl; met = U.met refl }
 
-  pub leaves : {s'' : Lists} {r : ℕ} → Left grid picture s' s'' r → spent (length picture) s < spent (length picture) s''
-  leaves L = let both : spent (length picture) s ≤ spent (length picture) s' = rw U.same_heads (omega (arith, U.more)) in omega (arith, L.more)
+    pub leaves :
+        {s'' : Lists} {r : Option ℕ} → Left grid picture s' s'' r → spent (length picture) s < spent (length picture) s''
+    leaves L =
+        let both : spent (length picture) s ≤ spent (length picture) s' = rw U.same_heads (omega (arith, U.more)) in
+        omega (arith, L.more)
 
 -- there are n pixels to meet, and the heads stay within part 3, so there is an end to the turns
 module _ {grid : Grid} {picture : List ℕ} {s : Lists} {l p : ℕ} where
@@ -238,16 +239,14 @@ module _ {grid : Grid} {picture : List ℕ} {s : Lists} {l p : ℕ} where
       → 257 * length picture + 1 - spent (length picture) s' < 257 * length picture + 1 - spent (length picture) s
   spent_falls s' S more = omega (arith, spent_le S)
 
-  pub unfinished : Standing grid picture s l p ⊎ Ended grid picture s l → (l ≡ 256 → ⊥) → Standing grid picture s l p
-  unfinished O ne = by_cases O (λ S. S) (λ D. absurd (ne D.0))
+-- what follows
+module _ {grid : Grid} {picture : List ℕ} {s s' : Lists} {r : Option ℕ} (L : Left grid picture s s' r) where
+  pub next_ready : {l : ℕ} → r ≡ Some l → Ready grid picture s' l
+  next_ready {l} e =
+      by_cases
+      L.outcome
+      (λ w. let same : w.0 ≡ l = let a = w.1 in cc in subst (λ (k : ℕ). Ready grid picture s' k) same w.2)
+      (λ D. absurd (let a = D.0 in cc))
 
-  pub ended : Standing grid picture s l p ⊎ Ended grid picture s l → l ≡ 256 → NumberedBy grid picture s.words (taken_of s.opened)
-  ended O e = by_cases O (λ S. absurd (omega (arith, S.ready.at.level))) (λ D. D.1)
-
--- the level that follows
-module _ {grid : Grid} {picture : List ℕ} {s s' : Lists} {r : ℕ} (L : Left grid picture s s' r) where
-  pub next_ready : (r ≡ 256 → ⊥) → Ready grid picture s' r
-  next_ready ne = by_cases L.outcome (λ R. R) (λ D. absurd (ne D.0))
-
-  pub no_next : r ≡ 256 → Ended grid picture s' r
-  no_next e = by_cases L.outcome (λ R. absurd (omega (arith, R.at.level))) (λ D. D)
+  pub ended : r ≡ None → NumberedBy grid picture s'.words (taken_of s'.opened)
+  ended e = by_cases L.outcome (λ w. absurd (let a = w.1 in cc)) (λ D. D.1)

@@ -1,5 +1,5 @@
 -- What the functions of the flood ask and leave, on the lists that they are lent.
-use Rattle.std.specs.Prelude.{ℕ, ◌+◌, ◌<◌, true, List, ◌⊎◌, ◌≡◌, length}
+use Rattle.std.specs.Prelude.{ℕ, ◌+◌, ◌<◌, true, List, ◌⊎◌, ◌≡◌, Option, Some, None, length}
 use Rattle.grid.specs.Pixels.{pixels}
 use Rattle.grid.specs.Neighbours.{adjacent}
 use Rattle.grid.specs.declared.Grid.{Grid}
@@ -24,13 +24,13 @@ pub record Leavable (grid : Grid) (picture : List ℕ) (s : Lists) (l p : ℕ) :
   pub stands : Standing grid picture s l p
   pub met : (x : ℕ) → x < length picture → adjacent grid p x ≡ true → number_at s.words x < length picture
 
--- the flood has ended, and r is 256
-abbrev pub Ended : Grid → List ℕ → Lists → ℕ → Type 0
-Ended grid picture s r = (r ≡ 256) × NumberedBy grid picture s.words (taken_of s.opened)
+-- the flood has ended, and r names no level
+abbrev pub Ended : Grid → List ℕ → Lists → Option ℕ → Type 0
+Ended grid picture s r = (r ≡ None) × NumberedBy grid picture s.words (taken_of s.opened)
 
--- that pixel is left: the flood goes on at level r, or has ended
-pub record Left (grid : Grid) (picture : List ℕ) (s s' : Lists) (r : ℕ) : Type 0 where
-  pub outcome : Ready grid picture s' r ⊎ Ended grid picture s' r
+-- that pixel is left: the flood goes on at the level that r names, or has ended
+pub record Left (grid : Grid) (picture : List ℕ) (s s' : Lists) (r : Option ℕ) : Type 0 where
+  pub outcome : ((l : ℕ) × (r ≡ Some l) × Ready grid picture s' l) ⊎ Ended grid picture s' r
   pub more : spent (length picture) s < spent (length picture) s'
 
 -- a picture of the grid's pixels, with a pixel at least, and a workspace for it

@@ -4,61 +4,50 @@
 #![tactic(auto)]
 
 ghost use Rattle.visits.specs.Visits.{Standing};
-ghost use Rattle.queues.specs.Queues.{lists, taken_of};
+ghost use Rattle.queues.specs.Queues.{lists_of, taken_of};
 ghost use Rattle.flood.specs.Calls.{Leavable, Left, Floodable, NumberedBy};
 
 use grid::Grid;
+use queues::{Opened, Queues};
+use visits::Picture;
 
 // Leaves the pixel p, whose neighbours are all met: the head of its level moves on, and a level with nothing left is closed. The answer is
-// the level at which the flood goes on, 256 at the end.
+// the level at which the flood goes on, none at the end.
 fn leave(
-    picture: &[u8],
-    grid: Grid,
+    picture: Picture,
     p: usize,
     level: usize,
+    queues: &mut Queues,
     ws: &mut [u32],
-    heads: &mut [usize; 256],
-    tails: &[usize; 256],
-    opened: &mut [usize; 262],
-) -> usize
-    requires { Leavable grid picture.now (lists ws.old heads.old tails.now opened.old) level p }
-    ensures { Left grid picture.now (lists ws.old heads.old tails.now opened.old) (lists ws.new heads.new tails.now opened.new) result }
+) -> Option<usize>
+    requires { Leavable picture.grid picture.greys.now (lists_of ws.old queues.old) level p }
+    ensures { Left picture.entry.grid picture.entry.greys.now (lists_of ws.old queues.old) (lists_of ws.new queues.new) result }
 {
-    heads[level] = heads[level] + 1;
-    if heads[level] != tails[level] {
-        return level;
+    queues.heads[level] += 1;
+    if queues.heads[level] != queues.tails[level] {
+        return Some(level);
     }
-    queues::close(picture.len(), level, ws, opened)
+    queues.opened.close(picture.greys.len(), level, ws)
 }
 
 // The flood from the pixel named, at the head of the level named, to its end. It goes on at once at a brighter pixel that was not met, or at
-// one that took the place at the head, else at the pixel at the head of the next level.
-fn run(
-    picture: &[u8],
-    grid: Grid,
-    first: usize,
-    start: usize,
-    ws: &mut [u32],
-    heads: &mut [usize; 256],
-    tails: &mut [usize; 256],
-    opened: &mut [usize; 262],
-)
-    requires { Standing grid picture.now (lists ws.old heads.old tails.old opened.old) start first }
-    ensures { NumberedBy grid picture.now ws.new (taken_of opened.new) }
+// one that took the place at the head, else at the pixel at the head of the next level. No `for`: where it goes on, a turn finds out.
+fn run(picture: Picture, first: usize, start: usize, queues: &mut Queues, ws: &mut [u32])
+    requires { Standing picture.grid picture.greys.now (lists_of ws.old queues.old) start first }
+    ensures { NumberedBy picture.entry.grid picture.entry.greys.now ws.new (taken_of queues.new.opened) }
 {
-    let n = picture.len();
+    let n = picture.greys.len();
     let mut p = first;
     let mut level = start;
-    while level != 256 {
-        let q = visits::visit_around(picture, grid, p, level, ws, heads, tails, opened);
-        if q != p {
+    loop {
+        if let Some(q) = picture.visit_around(p, level, queues, ws) {
             p = q;
-            level = picture[q] as usize;
+            level = picture.greys[q] as usize;
+        } else if let Some(next) = leave(picture, p, level, queues, ws) {
+            p = ws[2 * n + queues.heads[next]] as usize;
+            level = next;
         } else {
-            level = leave(picture, grid, p, level, ws, heads, tails, opened);
-            if level != 256 {
-                p = ws[2 * n + heads[level]] as usize;
-            }
+            return;
         }
     }
 }
@@ -70,29 +59,32 @@ pub fn flood(picture: &[u8], grid: Grid, ws: &mut [u32]) -> usize
     ensures { NumberedBy grid picture.now ws.new result }
 {
     let n = picture.len();
-    let counts = levels::count_levels(picture);
-    let mut heads = levels::run_starts(counts);
-    let mut tails = heads;
-    // no level is open: n for each number, an empty set, no number taken and no node closed
-    let mut opened: [usize; 262] = [n; 262];
-    opened[256] = 0;
-    opened[257] = 0;
-    opened[258] = 0;
-    opened[259] = 0;
-    opened[queues::TAKEN] = 0;
-    opened[queues::CLOSED] = 0;
-    levels::fill(&mut ws[0..n], n as u32);
+    let heads = levels::run_starts(levels::count_levels(picture));
+    // no level is open
+    let opened = Opened {
+        numbers: [n; 256],
+        levels: [0; 4],
+        taken: 0,
+        closed: 0,
+    };
+    let mut queues = Queues {
+        heads,
+        tails: heads,
+        opened,
+    };
+    levels::fill(&mut ws[..n], n as u32);
     let level = picture[0] as usize;
-    queues::push(n, 0, level, ws, &mut tails, &mut opened);
+    let k = queues.opened.next_number(level);
+    queues.append(n, 0, level, k, ws);
     run(
-        picture,
-        grid,
+        Picture {
+            greys: picture,
+            grid,
+        },
         0,
         level,
+        &mut queues,
         ws,
-        &mut heads,
-        &mut tails,
-        &mut opened,
     );
-    opened[queues::TAKEN]
+    queues.opened.taken
 }

@@ -3,7 +3,7 @@ use Prim.Native.Nat.{ℕ, ◌+◌, ◌*◌, ◌≤◌, ◌<◌}
 use mathlib.Core.Bool.{Bool, true, false, cond, ◌&&◌, ◌||◌}
 use mathlib.Core.List.{List}
 use mathlib.Core.Logic.{⊎_elim}
-use mathlib.Core.Path.{◌≡◌, refl, sym, ap, subst, ◌∙◌}
+use mathlib.Core.Path.{◌≡◌, refl, sym, ap, ◌∙◌}
 use native.Mathlib.Omega.{arith}
 use lib.Dec.{eqb}
 use lib.ListN.{length, set, length-set}
@@ -14,7 +14,7 @@ use Rattle.sets.proofs.Laws.{some_in_intro, some_in_elim, some_in_ext}
 use Rattle.sets.proofs.Tests.{clash, is_false, same_truth, and_left, and_right, and_both, or_cases, or_left, or_right}
 use Rattle.levels.specs.Workspace.{Sized, number_at, numbered, held_of}
 use Rattle.levels.proofs.Counts.{by_cases, equal_or_not}
-use Rattle.parts.proofs.Parts.{lent, returned, lent_long, lent_read, stored_in}
+use Rattle.parts.proofs.Parts.{lent, returned, lent_read, stored_in}
 use Rattle.accumulators.specs.Accumulators.{framed}
 use Rattle.accumulators.proofs.Accumulators.{framed_twice}
 use Rattle.frame.specs.Frame.{node_marked, run, Markable, Marked}
@@ -173,45 +173,27 @@ module _ (from step : ℕ) where
       (λ r. run_in (count + 1) count q (omega arith) (eqb-true (from + count * step) q r))
       (or_cases (run from step count q) (eqb (from + count * step) q) e))
 
--- i pixels of the run are done
-pub record Marking (a n from step count : ℕ) (ws₀ ws : List ℕ) (i : ℕ) : Type 0 where
-  pub top : i ≤ count
-  pub marked : Marked a n (run from step i) ws₀ ws
+-- no pixel of the run is done, and one more
+pub marking_none : (a : ℕ) {n : ℕ} {ws : List ℕ} (from step : ℕ) → Marked a n (run from step 0) ws ws
+marking_none a from step = marked_none (run from step 0) (λ q b. run_none from step q)
 
-pub marking_none : (a : ℕ) {n from step count : ℕ} {ws : List ℕ} → Marking a n from step count ws ws 0
-marking_none a {n} {from} {step} = record { top = omega arith; marked = marked_none (run from step 0) (λ q b. run_none from step q) }
-
-pub marking_end : {a n from step count : ℕ} {ws₀ ws : List ℕ} {i : ℕ} → count ≤ i → Marking a n from step count ws₀ ws i → Marked a n (run from step count) ws₀ ws
-marking_end {a} {n} {from} {step} {count} {ws₀} {ws} {i} all M =
-    subst (λ (k : ℕ). Marked a n (run from step k) ws₀ ws) (omega (arith, M.top)) M.marked
-
--- one pixel more
-module _ {a n from step count : ℕ} {ws₀ ws : List ℕ} {i : ℕ} (start : Markable n from step count ws₀) (M : Marking a n from step count ws₀ ws i) (left : i < count) where
+module _ {a n from step count : ℕ} {ws₀ ws : List ℕ} {i : ℕ} (start : Markable n from step count ws₀) (M : Marked a n (run from step i) ws₀ ws) (left : i < count) where
   abbrev q : ℕ
   q = from + i * step
 
-  pub pixel : q < n
+  pixel : q < n
   pixel = start.inside i left
 
   asked : NumberedPixel n q ws
   asked =
       record {
-        sized = record { words = M.marked.words ∙ start.sized.words; small = start.sized.small };
+        sized = record { words = M.words ∙ start.sized.words; small = start.sized.small };
         pixel = pixel;
-        node = omega (arith, M.marked.before q (omega (arith, pixel)), start.within q pixel);
+        node = omega (arith, M.before q (omega (arith, pixel)), start.within q pixel);
       }
 
-  pub words_long : 6 * n ≤ length ws
-  words_long = omega (arith, asked.sized.words)
-
-  pub node_within : 3 * number_at ws q + 2 < length (lent (3 * n) (6 * n) ws)
-  node_within = omega (arith, lent_long (3 * n) (6 * n) ws (omega (arith, words_long)), asked.node)
-
-  pub marking_more : {words : List ℕ} → words ≡ node_marked a (number_at ws q) (lent (3 * n) (6 * n) ws) → Marking a n from step count ws₀ (returned (3 * n) (6 * n) ws words) (i + 1)
+  pub marking_more : {words : List ℕ} → words ≡ node_marked a (number_at ws q) (lent (3 * n) (6 * n) ws) → Marked a n (run from step (i + 1)) ws₀ (returned (3 * n) (6 * n) ws words)
   marking_more is =
       rw
       (is, part_marked a asked)
-      (record {
-        top = omega arith;
-        marked = marked_then (run from step (i + 1)) M.marked (marked_one q asked) (λ x b. run_more from step i x);
-      })
+      (marked_then (run from step (i + 1)) M (marked_one q asked) (λ x b. run_more from step i x))

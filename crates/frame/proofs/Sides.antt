@@ -1,11 +1,11 @@
 -- The frame by its four sides: the first and the last row, the first and the last column, each a run of pixels. Assumes that rows and columns
 -- are not empty.
-use Prim.Native.Nat.{ℕ, ◌+◌, ◌-◌, ◌*◌, ◌/◌, ◌%◌, ◌≤◌, ◌<◌}
+use Prim.Native.Nat.{ℕ, ◌+◌, ◌-◌, ◌*◌, ◌/◌, ◌%◌, ◌<◌}
 use mathlib.Core.Bool.{true, ◌||◌}
 use mathlib.Core.List.{List}
 use mathlib.Core.Logic.{⊎_elim}
 use mathlib.Core.Path.{◌≡◌, refl, sym, ap, ◌∙◌}
-use native.Mathlib.Nat.{mul_comm, one-mul, add-mul, mul-le-mul_right, mod-lt, mod-eq_of_lt, mul-mod_left, add-mul-mod_self_right, div-add-mod', div-eq_of_lt, div-eq_of_lt-le}
+use native.Mathlib.Nat.{mul_comm, one-mul, add-mul, mod-lt, mod-eq_of_lt, mul-mod_left, add-mul-mod_self_right, div-add-mod', div-eq_of_lt, div-eq_of_lt-le}
 use native.Mathlib.Omega.{arith}
 use lib.Dec.{eqb}
 use borrow.Author.Tests.{eqb-true, eq-eqb}
@@ -15,7 +15,7 @@ use Rattle.grid.specs.Pixels.{pixels}
 use Rattle.grid.specs.Attributes.{first_or_last, on_frame}
 use Rattle.grid.specs.declared.Grid.{Grid}
 use Rattle.grid.proofs.Frame.{row_below}
-use Rattle.frame.specs.Frame.{run, Markable, Marked, Framable}
+use Rattle.frame.specs.Frame.{run, Marked, Framable}
 use Rattle.frame.proofs.Frame.{run_in, run_is, marked_then}
 
 module _ (grid : Grid) (wide : 0 < grid.width) (high : 0 < grid.height) where
@@ -42,25 +42,6 @@ module _ (grid : Grid) (wide : 0 < grid.width) (high : 0 < grid.height) where
 
   one_more : h - 1 + 1 ≡ h
   one_more = omega arith
-
-  -- a row ends within the picture
-  row_ends : (i : ℕ) → i < h → i * w + w ≤ n
-  row_ends i b =
-      let rows : (i + 1) * w ≤ h * w = mul-le-mul_right w (omega arith) in
-      omega (arith, rows, add-mul i 1 w, one-mul w, mul_comm w h)
-
-  -- so every run is inside
-  pub first_row_inside : (i : ℕ) → i < w → 0 + i * 1 < n
-  first_row_inside i b = omega (arith, row_ends 0 high)
-
-  pub last_row_inside : (i : ℕ) → i < w → n - w + i * 1 < n
-  last_row_inside i b = omega (arith, row_ends 0 high)
-
-  pub first_column_inside : (i : ℕ) → i < h → 0 + i * w < n
-  first_column_inside i b = omega (arith, row_ends i b)
-
-  pub last_column_inside : (i : ℕ) → i < h → w - 1 + i * w < n
-  last_column_inside i b = omega (arith, row_ends i b)
 
   module _ (q : ℕ) where
     in_first_row : first_row q ≡ true → on_frame grid q ≡ true
@@ -141,37 +122,8 @@ module _ (grid : Grid) (wide : 0 < grid.width) (high : 0 < grid.height) where
           in_last_column
           (or_cases ((first_row q || last_row q) || first_column q) (last_column q) e))
 
--- what each run asks, and what the four leave
+-- what the four runs leave
 module _ {grid : Grid} {n : ℕ} {ws : List ℕ} (F : Framable grid n ws) where
-  pub framable_on : {a : ℕ} {s : Positions} {ws' : List ℕ} → Marked a n s ws ws' → Framable grid n ws'
-  framable_on M =
-      record {
-        sized = record { words = M.words ∙ F.sized.words; small = F.sized.small };
-        whole = F.whole;
-        wide = F.wide;
-        high = F.high;
-        within = λ q b. omega (arith, M.before q (omega arith), F.within q b);
-      }
-
-  asks : (from step count : ℕ) → ((i : ℕ) → i < count → from + i * step < n) → Markable n from step count ws
-  asks from step count inside = record { sized = F.sized; within = F.within; inside = inside }
-
-  pub first_row_asks : Markable n 0 1 grid.width ws
-  first_row_asks = asks 0 1 grid.width (rw F.whole (first_row_inside grid F.wide F.high))
-
-  pub last_row_asks : Markable n (n - grid.width) 1 grid.width ws
-  last_row_asks = asks (n - grid.width) 1 grid.width (rw F.whole (last_row_inside grid F.wide F.high))
-
-  pub first_column_asks : Markable n 0 grid.width grid.height ws
-  first_column_asks = asks 0 grid.width grid.height (rw F.whole (first_column_inside grid F.wide F.high))
-
-  pub last_column_asks : Markable n (grid.width - 1) grid.width grid.height ws
-  last_column_asks = asks (grid.width - 1) grid.width grid.height (rw F.whole (last_column_inside grid F.wide F.high))
-
-  -- the last row starts within the picture
-  pub row_fits : grid.width ≤ n
-  row_fits = rw F.whole (omega (arith, row_ends grid F.wide F.high 0 F.high))
-
   pub framed_all : {a : ℕ} {ws₁ ws₂ ws₃ ws₄ : List ℕ} → Marked a n (run 0 1 grid.width) ws ws₁
       → Marked a n (run (n - grid.width) 1 grid.width) ws₁ ws₂
       → Marked a n (run 0 grid.width grid.height) ws₂ ws₃

@@ -1,5 +1,5 @@
 // The pass over the frame, after the pass over the own pixels: the accumulator of each node with a pixel in the first or last row or column
-// notes that. Only the pixels of the frame are read, so that the pass over all pixels needs no test.
+// notes that. Only the pixels of the frame are read, so that the pass over all pixels needs no test. The attribute comes as its number, as in the definitions.
 #![tactic(auto)]
 
 ghost use Rattle.std.specs.Prelude.{◌≡◌, ◌+◌, ◌*◌, ◌<◌, length};
@@ -21,11 +21,9 @@ fn mark_run(n: usize, attribute: u32, from: usize, step: usize, count: usize, ws
     requires { Markable n from step count ws.old }
     ensures { Marked attribute n (run from step count) ws.old ws.new }
 {
-    let mut i = 0;
-    while i < count {
+    for i in 0..count {
         let k = ws[from + i * step] as usize;
         mark_node(attribute, k, &mut ws[3 * n..6 * n]);
-        i += 1;
     }
 }
 

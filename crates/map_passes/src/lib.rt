@@ -4,7 +4,8 @@
 // of its last residue. What a node holds stands in two words by its number: in part 3 its place word, how many steps it outlasts, until the
 // node is settled, and then its run word, place × 65536 + the pair of the run of its own fall; in part 7 the pair of the run of largest total,
 // 0 where no residue is. As there are at most 256 steps and greys, a pair has 16 bits; a node that never falls has 512 for its place, beyond
-// every step and gap. The time grows neither with the number of steps nor with the gap.
+// every step and gap. The time grows neither with the number of steps nor with the gap. Pairs and runs stay packed: they stand in the words and in
+// the index map that a call is lent, and nothing is allocated.
 #![tactic(auto)]
 
 ghost use Rattle.std.specs.Prelude.{◌≡◌, cond, ℕ, ◌≤◌, ◌<◌, ltb, length, get_or};
@@ -14,10 +15,11 @@ ghost use Rattle.map_passes.specs.Settle.{total_in, index_in, place_of, shared_p
 ghost use Rattle.map_passes.specs.Passes.{Given, SettledFrom, Visitable, visited_at, pair_for, Paired, Holdable};
 
 // The run word of a node that never falls.
-const NEVER: u32 = 33554432;
+const NEVER: u32 = 512 * 65536;
 
 // The pair of the run of a node that falls at `place`, before its own fall: its parent's, from the parent's run word, if the parent falls at
 // most the gap later, else a run that ends at its own place.
+#[tactic(auto, unfolding(crate::specs::Settle::shared_pair, crate::specs::Settle::near))]
 fn shared(gap: u32, place: u32, run: u32) -> u32
     requires { (gap ≤ most_gap) × (place < most_steps) }
     ensures { result ≡ shared_pair gap place run }
@@ -37,6 +39,7 @@ pub fn better(own: u32, pair: u32) -> u32
 }
 
 // Stores the two words of the node of number k.
+#[tactic(auto, unfolding(crate::specs::Settle::stored))]
 fn store(n: usize, k: usize, run: u32, pair: u32, ws: &mut [u32])
     requires { Storable n k ws.old }
     ensures { ws.new ≡ stored n k run pair ws.old }
@@ -58,6 +61,7 @@ fn settle(gap: u32, place: u32, down: u32, n: usize, k: usize, up: usize, ws: &m
 
 // The place at which the node of number k falls: its place word, or `count`, the number of steps, if it is the root, which is its own parent
 // and never falls.
+#[tactic(auto, unfolding(crate::specs::Settle::place_of))]
 fn place_of(count: u32, k: usize, up: usize, word: u32) -> u32
     ensures { result ≡ place_of count k up word }
 {
@@ -75,10 +79,10 @@ fn visit(count: u32, gap: u32, n: usize, i: usize, ws: &mut [u32])
     let up = ws[3 * n + 3 * k + 1] as usize;
     let place = place_of(count, k, up, ws[2 * n + k]);
     if count <= place {
-        store(n, k, NEVER, 0, ws);
-        return;
+        store(n, k, NEVER, 0, ws)
+    } else {
+        settle(gap, place, down, n, k, up, ws)
     }
-    settle(gap, place, down, n, k, up, ws);
 }
 
 // Every node, the last closed first.
@@ -86,9 +90,7 @@ fn settle_nodes(count: u32, gap: u32, n: usize, nodes: usize, ws: &mut [u32])
     requires { Given n nodes gap count ws.old }
     ensures { SettledFrom n nodes gap count ws.old ws.new 0 }
 {
-    let mut i = nodes;
-    while i > 0 {
-        i -= 1;
+    for i in (0..nodes).rev() {
         visit(count, gap, n, i, ws);
     }
 }
@@ -102,16 +104,22 @@ pub fn settle_pairs(picture: &[u8], count: u32, gap: u32, nodes: usize, ws: &mut
     settle_nodes(count, gap, picture.len(), nodes, ws);
 }
 
+// The pair of the node of pixel p.
+pub fn pair_of(n: usize, ws: &[u32], p: usize) -> u32
+    requires holdable { Holdable n ws.now n }
+    requires p_lt_n { p < n }
+    ensures { result ≡ pair_for n ws.now p }
+{
+    ws[6 * n + ws[p] as usize]
+}
+
 // Every pixel takes the pair of its node.
 pub fn hold(n: usize, ws: &[u32], pairs: &mut [u16])
     requires { Holdable n ws.now (length pairs.old) }
     ensures { pairs.new ≡ table n (λ (q : ℕ). pair_for n ws.now q) }
 {
-    let mut p: usize = 0;
-    while p < n {
-        let k = ws[p] as usize;
-        pairs[p] = ws[6 * n + k] as u16;
-        p += 1;
+    for (p, pair) in pairs.iter_mut().enumerate() {
+        *pair = pair_of(n, ws, p) as u16;
     }
 }
 
@@ -121,12 +129,9 @@ pub fn unpack(residues: &mut [u8], indices: &mut [u16])
     ensures residues { residues.new ≡ table (length indices.old) (λ (q : ℕ). total_in (get_or indices.old q 0)) }
     ensures indices { indices.new ≡ table (length indices.old) (λ (q : ℕ). index_in (get_or indices.old q 0)) }
 {
-    let n = indices.len();
-    let mut p: usize = 0;
-    while p < n {
-        let pair = indices[p] as u32;
+    for (p, index) in indices.iter_mut().enumerate() {
+        let pair = u32::from(*index);
         residues[p] = (pair % 256) as u8;
-        indices[p] = ((pair + 255) / 256) as u16;
-        p += 1;
+        *index = ((pair + 255) / 256) as u16;
     }
 }

@@ -1,5 +1,7 @@
 -- What an opening call answers and writes: refused, it leaves all as it was; accepted, the pass over the record of the picture opens it, or the
 -- falls along one triple do, under the neighbours and the attributes of the grid. Assumes nothing.
+use Rattle.std.specs.Prelude.{Ok, Err}
+use Rattle.calls.specs.Judging.{Verdict}
 use Prim.Native.Nat.{ℕ, ◌-◌, ◌<◌}
 use mathlib.Core.Bool.{true}
 use mathlib.Core.List.{List, [], ◌∷◌}
@@ -29,8 +31,6 @@ use Rattle.calls.specs.Calls.{grey, opened_picture, record_of, OpenCall, open_ve
 use Rattle.calls.specs.declared.Step.{Step}
 use Rattle.calls.specs.declared.Step.TheVariants.{Threshold, Three}
 use Rattle.calls.specs.declared.Kind.TheVariants.{Triples}
-use Rattle.calls.specs.declared.Verdict.{Verdict}
-use Rattle.calls.specs.declared.Verdict.TheVariants.{Accepted, Refused}
 use Rattle.calls.proofs.Accepted.{open_passed, Bounded, bounded, threshold_some}
 use Rattle.building.specs.Building.{Recorded}
 use Rattle.map_passes.specs.Settle.{total_in}
@@ -149,33 +149,12 @@ Opens grid step picture ws output = (ws ≡ record_of grid (step_attribute step)
 pub opens_by : (grid : Grid) (picture : List ℕ) {step same : Step} {ws output : List ℕ} → step ≡ same → Opens grid same picture ws output → Opens grid step picture ws output
 opens_by grid picture {ws = ws} {output = output} is done = subst (λ (s : Step). Opens grid s picture ws output) (sym is) done
 
--- what holds of the answer, the workspace and the output after a call
-abbrev pub Called : OpenCall → Verdict → List ℕ → List ℕ → Type 0
-Called call answer workspace output =
-    (verdict_numbers answer ≡ verdict_numbers (open_verdict call))
-    × ((workspace ≡ open_workspace call)
-    × (output ≡ open_output call))
-
--- a call by the verdict that was found on it
-module _ (call : OpenCall) {verdict : Verdict} (judged : verdict ≡ open_verdict call) where
-  pub called_refused : {cause : Cause} → verdict ≡ Refused cause → Called call (Refused cause) call.workspace call.output
-  unfolding open_workspace open_output
-  called_refused {cause} refused =
-      let is : open_verdict call ≡ Refused cause = sym judged ∙ refused in
-      rw is (refl, (refl, refl))
-
-  module _ (accepted : verdict ≡ Accepted) where
-    pub open_asks : Openable call.grid call.step call.picture call.workspace call.output
-    open_asks =
-        let passed = open_passed call (sym judged ∙ accepted) in
-        record {
-          buildable = record { sides = passed.common.sides; bytes = passed.common.a_byte_each; words = passed.common.words_each };
-          good = passed.step;
-          entries = passed.output;
-        }
-
-    pub called_done : {workspace written : List ℕ} → Opens call.grid call.step call.picture workspace written → Called call Accepted workspace written
-    unfolding open_workspace open_output
-    called_done done =
-        let is : open_verdict call ≡ Accepted = sym judged ∙ accepted in
-        rw is (refl, (done.0, done.1))
+-- what an accepted call asks of the opening is there
+pub open_asks : (call : OpenCall) → open_verdict call ≡ Ok tt → Openable call.grid call.step call.picture call.workspace call.output
+open_asks call accepted =
+    let passed = open_passed call accepted in
+    record {
+      buildable = record { sides = passed.common.sides; bytes = passed.common.a_byte_each; words = passed.common.words_each };
+      good = passed.step;
+      entries = passed.output;
+    }

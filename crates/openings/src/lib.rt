@@ -12,7 +12,7 @@ ghost use Rattle.calls.specs.declared.Step.TheVariants.{Threshold, Three};
 ghost use Rattle.openings.specs.Climbing.{Climbable, From, Kept, OpenedTo, AllOpened, Pass};
 ghost use Rattle.openings.specs.Opening.{Openable, Fallen, less_its_fall};
 
-use calls::Step;
+use calls::{Kind, Step};
 use causes::Cause;
 use grid::{Grid, Triple};
 
@@ -22,14 +22,12 @@ fn climb(picture: &[u8], words: &[u32], n: usize, r: usize, threshold: u32) -> u
     requires { From picture.now words.now n r }
     ensures { Kept picture.now words.now n threshold (grey picture.now r) r result }
 {
-    if threshold <= words[n + r] {
-        return picture[r];
-    }
     let parent = words[r] as usize;
-    if parent == r {
-        return picture[r];
+    if threshold <= words[n + r] || parent == r {
+        picture[r]
+    } else {
+        climb(picture, words, n, parent, threshold)
     }
-    climb(picture, words, n, parent, threshold)
 }
 
 // The new grey of `p`, where every position before it has its own. The representative of a node that is kept has its own grey. That of a node
@@ -41,13 +39,15 @@ fn new_grey(picture: &[u8], words: &[u32], n: usize, p: usize, threshold: u32, o
     ensures { OpenedTo picture.now words.now n threshold p result }
 {
     if threshold <= words[n + p] {
-        return picture[p];
+        picture[p]
+    } else {
+        let parent = words[p] as usize;
+        if parent < p {
+            output[parent]
+        } else {
+            climb(picture, words, n, p, threshold)
+        }
     }
-    let parent = words[p] as usize;
-    if parent < p {
-        return output[parent];
-    }
-    climb(picture, words, n, p, threshold)
 }
 
 // Writes every new grey, in order of position.
@@ -58,15 +58,12 @@ fn open_record(picture: &[u8], words: &[u32], threshold: u32, output: &mut [u8])
     ensures { AllOpened picture.now words.now threshold output.new }
 {
     let n = picture.len();
-    let mut p = 0;
-    while p < n {
-        let v = new_grey(picture, words, n, p, threshold, output);
-        output[p] = v;
-        p += 1;
+    for p in 0..n {
+        output[p] = new_grey(picture, words, n, p, threshold, output);
     }
 }
 
-// Opens a picture at a threshold of an attribute, by climbing its record.
+// Opens a picture at a threshold of an attribute, by its number as a call names it, by climbing its record.
 fn open_at(
     picture: &[u8],
     grid: Grid,
@@ -89,12 +86,9 @@ fn take_falls(picture: &[u8], ws: &[u32], output: &mut [u8])
     ensures { output.new ≡ table (length picture.now) (λ (q : ℕ). less_its_fall picture.now ws.now q) }
 {
     let n = picture.len();
-    let mut q: usize = 0;
-    while q < n {
-        let k = ws[q] as usize;
-        let fall = (ws[6 * n + k] % 256) as u8;
-        output[q] = picture[q] - fall;
-        q += 1;
+    for (q, grey) in output.iter_mut().enumerate() {
+        let fall = (map_passes::pair_of(n, ws, q) % 256) as u8;
+        *grey = picture[q] - fall;
     }
 }
 
@@ -104,11 +98,8 @@ fn open_by_triple(picture: &[u8], grid: Grid, t: Triple, workspace: &mut [u32], 
     ensures workspace { workspace.new ≡ record_of grid 1 picture.now }
     ensures output { output.new ≡ opened_picture grid (step_test grid (Three t)) picture.now }
 {
-    let mut words: [u32; 3] = [0; 3];
-    words[0] = t.area;
-    words[1] = t.height;
-    words[2] = t.width;
-    sizing::settle(picture, grid, calls::Kind::Triples, &words, 0, workspace);
+    let words = [t.area, t.height, t.width];
+    sizing::settle(picture, grid, Kind::Triples, &words, 0, workspace);
     take_falls(picture, workspace, output);
     building::write_whole(picture, workspace);
 }
@@ -121,45 +112,29 @@ fn open_by(picture: &[u8], grid: Grid, step: Step, workspace: &mut [u32], output
 {
     match step {
         Step::Threshold(attribute, threshold) => {
-            open_at(picture, grid, attribute, threshold, workspace, output);
+            open_at(picture, grid, attribute, threshold, workspace, output)
         }
-        Step::Three(t) => {
-            open_by_triple(picture, grid, t, workspace, output);
-        }
+        Step::Three(t) => open_by_triple(picture, grid, t, workspace, output),
     }
 }
 
 // Opens a picture by a step of either kind: the output is the opened picture, and the workspace the tree record of the picture given.
+#[tactic(auto, using(crate::proofs::Opening::open_asks), unfolding(calls::specs::Judging::also, calls::specs::Calls::open_workspace, calls::specs::Calls::open_output))]
 pub fn open(
     picture: &[u8],
     grid: Grid,
     step: Step,
     workspace: &mut [u32],
     output: &mut [u8],
-) -> calls::Verdict
+) -> Result<(), Cause>
     ensures answer { verdict_numbers result ≡ verdict_numbers (open_verdict (open_call picture.now grid step workspace.old output.old)) }
     ensures workspace { workspace.new ≡ open_workspace (open_call picture.now grid step workspace.old output.old) }
     ensures output { output.new ≡ open_output (open_call picture.now grid step workspace.old output.old) }
 {
-    let named = calls::judge_picture(grid, picture.len(), calls::step_attribute(step));
-    let by_step = calls::also(named, calls::step_good(step), Cause::Steps);
-    let by_words = calls::also(
-        by_step,
-        calls::words_each(grid, workspace.len()),
-        Cause::Workspace,
-    );
-    let verdict = calls::also(
-        by_words,
-        calls::entry_each(grid, output.len()),
-        Cause::Output,
-    );
-    match verdict {
-        calls::Verdict::Refused(cause) => {
-            return calls::Verdict::Refused(cause);
-        }
-        calls::Verdict::Accepted => {
-            open_by(picture, grid, step, workspace, output);
-            return calls::Verdict::Accepted;
-        }
-    }
+    calls::judge_picture(grid, picture.len(), calls::step_attribute(step))?;
+    calls::check(calls::step_good(step), Cause::Steps)?;
+    calls::check(calls::words_each(grid, workspace.len()), Cause::Workspace)?;
+    calls::check(calls::entry_each(grid, output.len()), Cause::Output)?;
+    open_by(picture, grid, step, workspace, output);
+    Ok(())
 }

@@ -1,5 +1,6 @@
 // Runs the opening call on the cases of small pictures and on each refusal, and prints a line for each: the answer, and the memory that
 // the output and the workspace are lent from. Before each call the output's holds 9s and the workspace's 7s.
+// All memory is of fixed length, since nothing is allocated.
 #![tactic(auto)]
 
 use cases::{printing, table};
@@ -12,41 +13,28 @@ fn case(rt: &impl Print, line: &[u8]) -> io::Result<()> {
     let mut workspace = [7u32; 175];
     let mut output = [9u8; 25];
     let picture = table::bytes(rt, line, 1, &mut greys)?;
-    let width = table::number(line, 2);
-    let height = table::number(line, 3);
-    let attribute = table::number(line, 4);
-    let neighbours = table::number(line, 5);
-    let threshold = table::number(line, 6);
+    let grid = Grid {
+        width: table::number(line, 2),
+        height: table::number(line, 3),
+        neighbours: table::number(line, 5),
+    };
+    let step = calls::Step::Threshold(table::number(line, 4), table::number(line, 6));
     let answer = openings::open(
         picture,
-        Grid {
-            width,
-            height,
-            neighbours,
-        },
-        calls::Step::Threshold(attribute, threshold),
-        table::lent_words(rt, line, 7, &mut workspace)?,
-        table::lent_bytes(rt, line, 8, &mut output)?,
+        grid,
+        step,
+        table::lent(rt, line, 7, &mut workspace)?,
+        table::lent(rt, line, 8, &mut output)?,
     );
-    printing::text(rt, table::field(line, 0))?;
+    rt.write_all(table::field(line, 0))?;
     printing::verdict(rt, answer, b": done", b": refused ")?;
-    printing::text(rt, b",")?;
-    printing::bytes(rt, &output)?;
-    printing::text(rt, b",")?;
-    printing::words(rt, &workspace)?;
-    printing::text(rt, b"\n")
-}
-
-fn each(rt: &impl Print, lines: &[u8]) -> io::Result<()> {
-    let mut at = 0;
-    while at < lines.len() {
-        case(rt, table::line(lines, at))?;
-        at = table::next(lines, at);
-    }
-    Ok(())
+    print!(rt; ",")?;
+    printing::list(rt, &output)?;
+    print!(rt; ",")?;
+    printing::list(rt, &workspace)?;
+    print!(rt; "\n")
 }
 
 fn main(rt: HostRuntime) -> io::Result<()> {
-    let mut memory = [0u8; 65536];
-    each(&rt, table::read(&rt, &mut memory)?)
+    table::run(&rt, |line| case(&rt, line))
 }

@@ -7,8 +7,8 @@ use mathlib.Core.Path.{◌≡◌, refl, sym, ap, subst, ◌∙◌}
 use native.Mathlib.Nat.{le_antisymm}
 use native.Mathlib.Omega.{arith}
 use lib.Dec.{eqb, leb}
-use lib.ListN.{get_or, length, set, take, length-set}
-use lib.Seq.{get_or-set_same, get_or-set_other, get_or-take, take_at, drop_at, length-take-le}
+use lib.ListN.{get_or, length, set, take}
+use lib.Seq.{get_or-take, take_at, drop_at, length-take-le}
 use borrow.Author.Tests.{leb-true, le-leb, lt-leb, eqb-true, eq-eqb, ne_eqb}
 use borrow.Rule.Slice.PartMut.{post_of, same_len_mid, take_put}
 use Rattle.sets.specs.Sets.{Positions, some_in}
@@ -26,7 +26,7 @@ use Rattle.levels.proofs.Counts.{by_cases, equal_or_not}
 use Rattle.accumulators.specs.Accumulators.{nothing, seen, combined, gathered, Small, Capped}
 use Rattle.accumulators.proofs.Accumulators.{gathered_with, seen_small, seen_one, seen_capped, gathered_small, gathered_area_le, gathered_framed}
 use Rattle.parts.proofs.Parts.{lent, returned, lent_long, lent_read, read_one, read_two, read_else}
-use Rattle.frame.specs.Frame.{Marked, Framable}
+use Rattle.frame.specs.Frame.{Marked}
 use Rattle.own_pixels.specs.OwnPixels.{Countable, Blank, Gatherable, gathered_at, Seen, Owned}
 
 -- the words of the nodes, and the three of the node k among them
@@ -69,30 +69,6 @@ node_stored m words k x y b =
             there = λ j c ne. else (3 * j + 2) (λ z. omega arith) (λ z. ne (omega arith));
           };
     }
-
--- what one own pixel more leaves of the words of the nodes
-pub gathered_one : (a q k own : ℕ) (words : List ℕ) (held : ℕ) → held ≡ combined a (held_in words k) own → set (set words (3 * k) q) (3 * k + 2) held ≡ gathered_at a q k own words
-gathered_one a q k own words held e = rw e refl
-
--- no node is blank at first, one more after its store, and all at last
-pub blank_none : (a : ℕ) (words : List ℕ) → Blank a 0 words words
-blank_none a words = record { long = refl; ups = λ k. refl; held = λ k b. absurd (omega arith) }
-
-pub blank_more : {a k v : ℕ} {words₀ words : List ℕ} → 3 * k + 2 < length words → Blank a k words₀ words → v ≡ nothing a → Blank a (k + 1) words₀ (set words (3 * k + 2) v)
-blank_more {a} {k} {v} {words₀} {words} b B is =
-    record {
-      long = length-set words (3 * k + 2) v ∙ B.long;
-      ups = λ j. get_or-set_other words (3 * k + 2) (3 * j + 1) v 0 (λ z. omega arith) ∙ B.ups j;
-      held =
-          λ j c.
-          by_cases
-          (equal_or_not j k)
-          (λ e. rw e (get_or-set_same words (3 * k + 2) v 0 b ∙ is))
-          (λ ne. get_or-set_other words (3 * k + 2) (3 * j + 2) v 0 (λ z. ne (omega arith)) ∙ B.held j (omega arith));
-    }
-
-pub blank_end : {a m k : ℕ} {words₀ words : List ℕ} → m ≤ k → Blank a k words₀ words → Blank a m words₀ words
-blank_end all B = record { long = B.long; ups = B.ups; held = λ j b. B.held j (omega arith) }
 
 -- the positions from q on that have the number k
 abbrev from : (ℕ → ℕ) → ℕ → ℕ → Positions
@@ -366,16 +342,6 @@ module _ {grid : Grid} {a n m : ℕ} {ws words : List ℕ} (start : Countable gr
 
 -- the pass over the frame
 module _ {grid : Grid} {a n m : ℕ} {ws ws' : List ℕ} (start : Countable grid a n m ws) (S : Seen grid a n m ws ws') where
-  pub frame_asked : Framable grid n ws'
-  frame_asked =
-      record {
-        sized = record { words = S.kept.words ∙ start.sized.words; small = start.sized.small };
-        whole = start.whole;
-        wide = start.wide;
-        high = start.high;
-        within = λ x b. omega (arith, S.kept.before x (omega arith), start.within x b, start.few);
-      }
-
   pub framed_end : {ws'' : List ℕ} → Marked a n (on_frame grid) ws' ws'' → Owned grid a n m ws ws''
   framed_end M =
       record {

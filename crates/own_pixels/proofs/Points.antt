@@ -1,12 +1,11 @@
 -- Points: the point before one, the point after the last pixel, and what is seen of the pixel at a point. Assumes nothing.
 use Prim.Native.Nat.{ℕ, ◌+◌, ◌-◌, ◌*◌, ◌/◌, ◌%◌, ◌<◌}
 use mathlib.Core.Path.{◌≡◌, refl, sym, ap, ◌∙◌}
-use native.Mathlib.Nat.{add_comm, add-mul, one-mul, mul_comm, div-add-mod', div-eq_of_lt, mod-eq_of_lt, add-mul-div_right, add-mul-mod_self_right, mod-lt}
+use native.Mathlib.Nat.{add_comm, mul_comm, div-add-mod', div-eq_of_lt, mod-eq_of_lt, add-mul-div_right, add-mul-mod_self_right}
 use native.Mathlib.Omega.{arith}
 use Rattle.grid.specs.Pixels.{pixels}
 use Rattle.grid.specs.Attributes.{side}
 use Rattle.grid.specs.declared.Grid.{Grid}
-use Rattle.levels.proofs.Counts.{by_cases, equal_or_not}
 use Rattle.accumulators.specs.Accumulators.{lone, seen}
 use Rattle.own_pixels.specs.declared.Point.{Point}
 use Rattle.own_pixels.specs.Points.{point_of, position, coordinate}
@@ -23,19 +22,9 @@ point_at w i j b =
     ap (λ (k : ℕ). k % w) (add_comm (i * w) j) ∙ add-mul-mod_self_right j i w ∙ mod-eq_of_lt b in
     rw (rows, columns) refl
 
--- the point before one: where a row starts the last of the row above, else the next on the left
-module _ (w i j : ℕ) (inside : j < w) (left : 0 < i * w + j) where
-  pub row_above : j ≡ 0 → 0 < i
-  row_above e = by_cases (equal_or_not i 0) (λ z. absurd (omega (arith, ap (λ (k : ℕ). k * w) z))) (λ ne. omega arith)
-
-  pub previous_row : j ≡ 0 → at (i - 1) (w - 1) ≡ point_of w (i * w + j - 1)
-  previous_row e =
-      let up : i * w ≡ (i - 1) * w + w =
-      ap (λ (k : ℕ). k * w) (omega (arith, row_above e)) ∙ add-mul (i - 1) 1 w ∙ ap (λ (k : ℕ). (i - 1) * w + k) (one-mul w) in
-      sym (point_at w (i - 1) (w - 1) (omega arith)) ∙ ap (point_of w) (omega (arith, up))
-
-  pub previous_column : 0 < j → at i (j - 1) ≡ point_of w (i * w + j - 1)
-  previous_column c = sym (point_at w i (j - 1) (omega arith)) ∙ ap (point_of w) (omega arith)
+-- the point before one that is not the first of its row
+pub previous_column : (w i j : ℕ) → j < w → 0 < i * w + j → 0 < j → at i (j - 1) ≡ point_of w (i * w + j - 1)
+previous_column w i j inside left c = sym (point_at w i (j - 1) (omega arith)) ∙ ap (point_of w) (omega arith)
 
 -- the point after the last pixel
 pub end_point : (grid : Grid) (n : ℕ) → 0 < grid.width → n ≡ pixels grid → at grid.height 0 ≡ point_of grid.width n
@@ -47,9 +36,6 @@ end_point grid n wide whole =
 module _ (w q : ℕ) {p : Point} (is : p ≡ point_of w q) where
   pub position_is : position w p ≡ q
   position_is = rw is (div-add-mod' q w)
-
-  pub column_inside : 0 < w → p.column < w
-  column_inside wide = rw is (mod-lt q wide)
 
   pub previous_is : {p' : Point} → p' ≡ point_of w (position w p - 1) → p' ≡ point_of w (q - 1)
   previous_is e = e ∙ ap (λ (k : ℕ). point_of w (k - 1)) position_is

@@ -1,5 +1,5 @@
 // The pass over the own pixels of the nodes, after the flood: among the words of each node, its lowest own pixel and the accumulator of its
-// own pixels. The words of the nodes, parts 4 to 6, are lent on by themselves.
+// own pixels. The words of the nodes, parts 4 to 6, are lent on by themselves. The attribute comes as its number, as in the definitions.
 #![tactic(auto)]
 
 ghost use Rattle.std.specs.Prelude.{◌≡◌, ◌*◌, ◌-◌, ◌≤◌, ◌<◌, length};
@@ -15,32 +15,36 @@ struct Point {
     column: u32,
 }
 
-// The point before: where a row starts the last of the row above, else the next on the left. So no pixel needs a division.
-fn previous(width: u32, point: Point) -> Point
-    requires column_lt_width { point.column < width }
-    requires point_nonzero { 0 < position width point }
-    ensures { result ≡ point_of width (position width point - 1) }
-{
-    if point.column == 0 {
-        return Point {
-            row: point.row - 1,
-            column: width - 1,
-        };
+impl Point {
+    // The point before: where a row starts the last of the row above, else the next on the left. So no pixel needs a division.
+    #[tactic(auto, using(crate::proofs::Points::previous_column))]
+    fn previous(self, width: u32) -> Point
+        requires column_lt_width { self.column < width }
+        requires point_nonzero { 0 < position width self }
+        ensures { result ≡ point_of width (position width self - 1) }
+    {
+        if self.column == 0 {
+            Point {
+                row: self.row - 1,
+                column: width - 1,
+            }
+        } else {
+            Point {
+                column: self.column - 1,
+                ..self
+            }
+        }
     }
-    Point {
-        row: point.row,
-        column: point.column - 1,
-    }
-}
 
-// The row of a point for the height, its column for the width.
-fn coordinate(attribute: u32, point: Point) -> u32
-    ensures { result ≡ coordinate attribute point }
-{
-    if attribute == 2 {
-        return point.row;
+    // The row of a point for the height, its column for the width.
+    fn coordinate(self, attribute: u32) -> u32
+        ensures { result ≡ coordinate attribute self }
+    {
+        match attribute {
+            2 => self.row,
+            _ => self.column,
+        }
     }
-    point.column
 }
 
 // The accumulator of no pixel for each of the nodes.
@@ -49,10 +53,8 @@ fn blank(attribute: u32, nodes: usize, words: &mut [u32])
     ensures { Blank attribute nodes words.old words.new }
 {
     let none = accumulators::none(attribute);
-    let mut k = 0;
-    while k < nodes {
+    for k in 0..nodes {
         words[3 * k + 2] = none;
-        k += 1;
     }
 }
 
@@ -79,12 +81,10 @@ fn own_seen(n: usize, grid: Grid, attribute: u32, nodes: usize, ws: &mut [u32])
         row: grid.height,
         column: 0,
     };
-    let mut q = n;
-    while q > 0 {
-        q -= 1;
-        point = previous(grid.width, point);
+    for q in (0..n).rev() {
+        point = point.previous(grid.width);
         let k = ws[q] as usize;
-        let own = accumulators::one(attribute, coordinate(attribute, point));
+        let own = accumulators::one(attribute, point.coordinate(attribute));
         gather(attribute, q, k, own, &mut ws[3 * n..6 * n]);
     }
 }

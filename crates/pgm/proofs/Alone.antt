@@ -1,5 +1,10 @@
 -- "Files with no byte after the first raster, asked for as number 1, answer as before": the answer of a reader that takes a file for one
 -- picture, as it stood before a file could hold several, and that it is still the answer. Assumes nothing.
+use Rattle.std.specs.Prelude.{Err, None, Ok, Option, Result, Some}
+use Rattle.pgm_read.specs.declared.Picture.{Picture}
+use Rattle.causes.specs.declared.Cause.{Cause}
+use Rattle.pgm_header.specs.declared.Header.{Header}
+use Rattle.pgm_header.proofs.Parts.{found_header}
 use Prim.Native.Nat.{ℕ, ◌+◌, ◌*◌, ◌-◌, ◌≤◌}
 use mathlib.Core.Path.{◌≡◌, refl, ◌∙◌, ap}
 use mathlib.Core.Bool.{Bool, true, false, cond}
@@ -14,32 +19,28 @@ use Rattle.causes.specs.Causes.{must}
 use Rattle.causes.specs.Sides.{sides_fit}
 use Rattle.pgm_values.specs.Values.{maximum_fits, all_at_most}
 use Rattle.pgm_header.specs.Header.{sign, starts_with_sign, header_at}
-use Rattle.pgm_header.specs.declared.Header.{Header}
-use Rattle.pgm_header.specs.declared.Header.TheVariants.{Read, Broken}
-use Rattle.pgm_read.specs.Read.{judged, picture_at, pictures_from, unless_faulty, read_answer, raster_part, raster_of}
-use Rattle.pgm_read.specs.declared.Found.{Found}
-use Rattle.pgm_read.specs.declared.Found.TheVariants.{Picture, Refused}
+use Rattle.pgm_read.specs.Read.{found_picture, judged, picture_at, pictures_from, unless_faulty, read_answer, raster_part, raster_of}
 use Rattle.pgm_read.proofs.Judging.{accepted}
 
 -- the answer before: all that follows the header is the raster, and has as many bytes as the picture has pixels
-unfoldable pub judged_alone : List ℕ → Header → Found
-judged_alone file Broken = Refused BadHeader
-judged_alone file (Read width height maximum start) =
-    must Refused (maximum_fits maximum) Maximum
-    (must Refused (sides_fit width height) Sides
-    (must Refused (eqb (length file - start) (width * height)) RasterLength
-    (must Refused (all_at_most maximum (drop start file)) Sample
-    (Picture width height maximum start))))
+unfoldable pub judged_alone : List ℕ → Option Header → Result Picture Cause
+judged_alone file None = Err BadHeader
+judged_alone file (Some h) =
+    must Err (maximum_fits h.maximum) Maximum
+    (must Err (sides_fit h.width h.height) Sides
+    (must Err (eqb (length file - h.start) (h.width * h.height)) RasterLength
+    (must Err (all_at_most h.maximum (drop h.start file)) Sample
+    (found_picture h.width h.height h.maximum h.start))))
 
-unfoldable pub answer_alone : List ℕ → Found
-answer_alone file = must Refused (starts_with_sign file) Sign (judged_alone file (header_at file (length sign)))
+unfoldable pub answer_alone : List ℕ → Result Picture Cause
+answer_alone file = must Err (starts_with_sign file) Sign (judged_alone file (header_at file (length sign)))
 
 -- no byte stands after the first raster, where the file has one: its first header is read, and the maximum and the sides fit
 abbrev pub NoMore : List ℕ → Type 0
 NoMore file =
     (width height maximum start : ℕ)
     → starts_with_sign file ≡ true
-    → header_at file (length sign) ≡ Read width height maximum start
+    → header_at file (length sign) ≡ found_header width height maximum start
     → maximum_fits maximum ≡ true
     → sides_fit width height ≡ true
     → length file ≤ start + width * height
@@ -57,25 +58,25 @@ module _ (file : List ℕ) (w h s : ℕ) (few : length file ≤ s + w * h) where
           let some = eqb-false (length file - s) (w * h) e in
           simp (lt-leb (w * h) (length file - s) (omega arith))
 
-judged_same : (file : List ℕ) (header : Header) → ((w h m s : ℕ) → header ≡ Read w h m s → maximum_fits m ≡ true → sides_fit w h ≡ true → length file ≤ s + w * h) → judged file header ≡ judged_alone file header
+judged_same : (file : List ℕ) (header : Option Header) → ((w h m s : ℕ) → header ≡ found_header w h m s → maximum_fits m ≡ true → sides_fit w h ≡ true → length file ≤ s + w * h) → judged file header ≡ judged_alone file header
 unfolding judged judged_alone
-judged_same file Broken few = refl
-judged_same file (Read w h m s) few = go (maximum_fits m) (sides_fit w h) refl refl
+judged_same file None few = refl
+judged_same file (Some n) few = go (maximum_fits n.maximum) (sides_fit n.width n.height) refl refl
   where
-    go : (t u : Bool) → maximum_fits m ≡ t → sides_fit w h ≡ u → judged file (Read w h m s) ≡ judged_alone file (Read w h m s)
+    go : (t u : Bool) → maximum_fits n.maximum ≡ t → sides_fit n.width n.height ≡ u → judged file (Some n) ≡ judged_alone file (Some n)
     go false u e f = simp e
     go true false e f = simp (e, f)
     go true true e f =
-        simp (e, f) (raster_all file w h s (few w h m s refl e f) (λ (l : List ℕ). must Refused (all_at_most m l) Sample (Picture w h m s)) (Refused RasterLength))
+        simp (e, f) (raster_all file n.width n.height n.start (few n.width n.height n.maximum n.start refl e f) (λ (l : List ℕ). must Err (all_at_most n.maximum l) Sample (found_picture n.width n.height n.maximum n.start)) (Err RasterLength))
 
 -- a file with nothing after its first picture answers as that picture
-first_only : (file : List ℕ) → ((w h m s : ℕ) → picture_at file 0 ≡ Picture w h m s → length file ≤ s + w * h) → read_answer file 1 ≡ picture_at file 0
+first_only : (file : List ℕ) → ((w h m s : ℕ) → picture_at file 0 ≡ found_picture w h m s → length file ≤ s + w * h) → read_answer file 1 ≡ picture_at file 0
 unfolding read_answer pictures_from unless_faulty
 first_only file few = go (picture_at file 0) refl
   where
-    go : (found : Found) → picture_at file 0 ≡ found → read_answer file 1 ≡ picture_at file 0
-    go (Refused cause) e = rw e refl
-    go (Picture w h m s) e = rw (e, le-ltb (s + w * h) (length file) (few w h m s e)) refl
+    go : (found : Result Picture Cause) → picture_at file 0 ≡ found → read_answer file 1 ≡ picture_at file 0
+    go (Err cause) e = rw e refl
+    go (Ok p) e = rw (e, le-ltb (p.start + p.width * p.height) (length file) (few p.width p.height p.maximum p.start e)) refl
 
 picture_same : (file : List ℕ) → NoMore file → picture_at file 0 ≡ answer_alone file
 unfolding picture_at answer_alone

@@ -1,5 +1,8 @@
 -- A file that is cut. A header is decided by its own bytes (`header_own`), so a front that ends within the first header has none, and
 -- `cut_header` and `cut_accepted` give the number; after the header `cut_raster` does. Assumes nothing.
+use Rattle.std.specs.Prelude.{Err, None, Ok, Option, Result, Some}
+use Rattle.pgm_read.specs.declared.Picture.{Picture}
+use Rattle.pgm_header.specs.declared.Header.{Header}
 use Prim.Native.Nat.{ℕ, ◌+◌, ◌*◌, ◌-◌, ◌≤◌, ◌<◌}
 use mathlib.Core.Path.{◌≡◌, refl, sym, ◌∙◌, ap}
 use mathlib.Core.Bool.{Bool, true, false, cond}
@@ -13,15 +16,10 @@ use borrow.Author.Tests.{lt-leb, ltb-true, ltb-false}
 use Rattle.causes.specs.declared.Cause.{Cause}
 use Rattle.causes.specs.declared.Cause.TheVariants.{Sign, Header as BadHeader, RasterLength}
 use Rattle.pgm_header.specs.Header.{sign, starts_with_sign, white_at, header_at}
-use Rattle.pgm_header.specs.declared.Header.{Header}
-use Rattle.pgm_header.specs.declared.Header.TheVariants.{Read, Broken}
-use Rattle.pgm_header.specs.declared.Part.TheVariants.{Value}
-use Rattle.pgm_header.proofs.Parts.{part_at}
+use Rattle.pgm_header.proofs.Parts.{found_number, found_header, header_parts, part_at}
 use Rattle.pgm_header.proofs.Scan.{white_below, whole_header}
 use Rattle.pgm_header.proofs.Whole.{part_found, part_after, header_read}
-use Rattle.pgm_read.specs.Read.{judged, picture_at, read_answer}
-use Rattle.pgm_read.specs.declared.Found.{Found}
-use Rattle.pgm_read.specs.declared.Found.TheVariants.{Picture, Refused}
+use Rattle.pgm_read.specs.Read.{found_picture, judged, picture_at, read_answer}
 use Rattle.pgm_read.proofs.Judging.{Accepted, accepted, goes_on, signed, unsigned, judged_broken, judged_length}
 use Rattle.pgm.specs.Burst.Pages.{none}
 use Rattle.pgm.specs.Cut.{cut_cause, CutShort}
@@ -57,7 +55,7 @@ module _ (file : List ℕ) (end : ℕ) (within : end ≤ length file) (rest : Li
   white_own at e l = white_stands other at (get_or file at 0) (drop (at + 1) other) (white_there at e l) (white_here file at e).0
 
   -- a number that a white byte follows
-  part_own : (at number after : ℕ) → part_at file at ≡ Value number after → white_at file after ≡ true → after < end → part_at other at ≡ Value number after
+  part_own : (at number after : ℕ) → part_at file at ≡ found_number number after → white_at file after ≡ true → after < end → part_at other at ≡ found_number number after
   part_own at number after e w l =
       let p = part_stands file at number after e in
       let stop = white_stops (get_or file after 0) (drop (after + 1) other) (white_here file after w).0 in
@@ -67,10 +65,10 @@ module _ (file : List ℕ) (end : ℕ) (within : end ≤ length file) (rest : Li
       let r = part_read number p.digits (drop after other) p.number_right (rw (white_there after w l) stop) other at p.gap_right layout in
       let below = white_below other after (white_own after w l) in
       let same : r.after ≡ after = omega (arith, below, length-drop r.after other, length-drop after other, ap length r.stands) in
-      r.read ∙ ap (Value number) same
+      r.read ∙ ap (λ (end : ℕ). found_number number end) same
 
   -- and so a whole header
-  header_same : (at width height maximum : ℕ) → header_at file at ≡ Read width height maximum end → header_at other at ≡ Read width height maximum end
+  header_same : (at width height maximum : ℕ) → header_at file at ≡ found_header width height maximum end → header_at other at ≡ found_header width height maximum end
   header_same at width height maximum e =
       let h = header_read width height maximum end file at e in
       let v = part_found file h.height_from height h.maximum_from h.height_read in
@@ -83,33 +81,33 @@ module _ (file : List ℕ) (end : ℕ) (within : end ≤ length file) (rest : Li
       height h.maximum_from (part_own h.height_from height h.maximum_from h.height_read m.white (omega (arith, b, last)))
       maximum h.end (part_own h.maximum_from maximum h.end h.maximum_read h.last_read last)
       (white_own h.end h.last_read last))
-      ∙ ap (Read width height maximum) (sym h.start_read)
+      ∙ ap (λ (s : ℕ). found_header width height maximum s) (sym h.start_read)
 
-header_within : (file : List ℕ) (at width height maximum start : ℕ) → header_at file at ≡ Read width height maximum start → start ≤ length file
+header_within : (file : List ℕ) (at width height maximum start : ℕ) → header_at file at ≡ found_header width height maximum start → start ≤ length file
 header_within file at width height maximum start e =
     let h = header_read width height maximum start file at e in
     omega (arith, white_below file h.end h.last_read, h.start_read)
 
 -- a header is decided by its own bytes: another file that starts with the same bytes, up to its end, has the same header
-pub header_own : (file other : List ℕ) (at width height maximum start : ℕ) → header_at file at ≡ Read width height maximum start → take start file ≡ take start other → header_at other at ≡ Read width height maximum start
+pub header_own : (file other : List ℕ) (at width height maximum start : ℕ) → header_at file at ≡ found_header width height maximum start → take start file ≡ take start other → header_at other at ≡ found_header width height maximum start
 header_own file other at width height maximum start e same =
     header_same file start (header_within file at width height maximum start e) (drop start other) other (sym (take-append-drop start other) ∙ ap (λ (l : List ℕ). l ++ drop start other) (sym same)) at width height maximum e
 
 -- so many bytes of a file are left, whose header ends at start
-module _ (file : List ℕ) (width height maximum start left : ℕ) (e : header_at file 2 ≡ Read width height maximum start) where
-  cut_broken : left < start → header_at (take left file) 2 ≡ Broken
+module _ (file : List ℕ) (width height maximum start left : ℕ) (e : header_at file 2 ≡ found_header width height maximum start) where
+  cut_broken : left < start → header_at (take left file) 2 ≡ None
   cut_broken l = go (header_at (take left file) 2) refl
     where
-      go : (h : Header) → header_at (take left file) 2 ≡ h → h ≡ Broken
-      go Broken f = refl
-      go (Read w h m s) f =
+      go : (h : Option Header) → header_at (take left file) 2 ≡ h → h ≡ None
+      go None f = refl
+      go (Some n) f =
           let short : length (take left file) ≡ left = length-take-le left file (omega (arith, header_within file 2 width height maximum start e)) in
-          let sooner : s ≤ left = omega (arith, header_within (take left file) 2 w h m s f, short) in
-          let same : Read width height maximum start ≡ Read w h m s = sym e ∙ header_own (take left file) file 2 w h m s f (take-take s left file sooner) in
-          let z : start ≡ s = cc in
+          let sooner : n.start ≤ left = omega (arith, header_within (take left file) 2 n.width n.height n.maximum n.start f, short) in
+          let same : found_header width height maximum start ≡ Some n = sym e ∙ header_own (take left file) file 2 n.width n.height n.maximum n.start f (take-take n.start left file sooner) in
+          let z : start ≡ n.start = (header_parts width height maximum start n.width n.height n.maximum n.start same).3 in
           absurd (omega arith)
 
-  cut_whole : start ≤ left → header_at (take left file) 2 ≡ Read width height maximum start
+  cut_whole : start ≤ left → header_at (take left file) 2 ≡ found_header width height maximum start
   cut_whole l = header_own file (take left file) 2 width height maximum start e (sym (take-take start left file l))
 
 -- the sign is left as long as there are as many bytes
@@ -126,19 +124,19 @@ sign_cut : (file : List ℕ) (left : ℕ) → left < length sign → left ≤ le
 sign_cut file left l m = rw (length-take-le left file m, lt-leb 2 left l)
 
 -- a file whose first picture is faulty is refused by its cause, whichever picture is named
-first_faulty : (file : List ℕ) (cause : Cause) → picture_at file 0 ≡ Refused cause → (number : ℕ) → read_answer file number ≡ Refused cause
+first_faulty : (file : List ℕ) (cause : Cause) → picture_at file 0 ≡ Err cause → (number : ℕ) → read_answer file number ≡ Err cause
 first_faulty file cause e =
     faulty_refused (record { before = []; rest = file; earlier = 0; layout = refl; before_right = none; more = inl refl; faulty = e })
 
-module _ (file : List ℕ) (width height maximum start : ℕ) (e : picture_at file 0 ≡ Picture width height maximum start) (left : ℕ) where
+module _ (file : List ℕ) (width height maximum start : ℕ) (e : picture_at file 0 ≡ found_picture width height maximum start) (left : ℕ) where
   whole : (starts_with_sign file ≡ true) × Accepted file (header_at file 2) width height maximum start
   whole = accepted file 0 width height maximum start e
 
   -- a cut within the first header
-  pub cut_header : left < start → (number : ℕ) → read_answer (take left file) number ≡ Refused (cut_cause left)
+  pub cut_header : left < start → (number : ℕ) → read_answer (take left file) number ≡ Err (cut_cause left)
   cut_header l = first_faulty (take left file) (cut_cause left) (go (ltb left 2) refl)
     where
-      go : (t : Bool) → ltb left 2 ≡ t → picture_at (take left file) 0 ≡ Refused (cond t Sign BadHeader)
+      go : (t : Bool) → ltb left 2 ≡ t → picture_at (take left file) 0 ≡ Err (cond t Sign BadHeader)
       go true f = sym (unsigned (take left file) 0 (sign_cut file left (ltb-true left 2 f) (omega (arith, header_within file 2 width height maximum start whole.1.header))))
       go false f =
           sym (signed (take left file) 0 (sign_left file left whole.0 (ltb-false left 2 f)))
@@ -146,7 +144,7 @@ module _ (file : List ℕ) (width height maximum start : ℕ) (e : picture_at fi
           ∙ sym (judged_broken (take left file))
 
   -- a cut after it and within the first raster: "a raster cut short stays 11"
-  pub cut_raster : start ≤ left → left < start + width * height → (number : ℕ) → read_answer (take left file) number ≡ Refused RasterLength
+  pub cut_raster : start ≤ left → left < start + width * height → (number : ℕ) → read_answer (take left file) number ≡ Err RasterLength
   cut_raster l m =
       let front : List ℕ = take left file in
       let size : length front ≡ left = length-take-le left file (omega (arith, whole.1.length_right)) in
@@ -157,21 +155,21 @@ module _ (file : List ℕ) (width height maximum start : ℕ) (e : picture_at fi
       )
 
 -- "an accepted file cut anywhere within its first header answers 8 if less than the sign is left, else 9"
-pub cut_accepted : (file : List ℕ) (named width height maximum start : ℕ) → read_answer file named ≡ Picture width height maximum start → CutShort file
+pub cut_accepted : (file : List ℕ) (named width height maximum start : ℕ) → read_answer file named ≡ found_picture width height maximum start → CutShort file
 cut_accepted file named width height maximum start e = go (picture_at file 0) refl
   where
-    go : (found : Found) → picture_at file 0 ≡ found → CutShort file
-    go (Refused cause) f =
-        let g : Refused cause ≡ Picture width height maximum start = sym (first_faulty file cause f named) ∙ e in
+    go : (found : Result Picture Cause) → picture_at file 0 ≡ found → CutShort file
+    go (Err cause) f =
+        let g : Err cause ≡ found_picture width height maximum start = sym (first_faulty file cause f named) ∙ e in
         let z : ◌≡◌ {A = ℕ} 0 1 = cc in
         absurd (omega arith)
-    go (Picture w h m s) f =
+    go (Ok p) f =
         record {
-          width = w;
-          height = h;
-          maximum = m;
-          end = s;
+          width = p.width;
+          height = p.height;
+          maximum = p.maximum;
+          end = p.start;
           first = first_answer file named width height maximum start e ∙ f;
-          header_cut = λ left. cut_header file w h m s f left;
-          raster_cut = λ left. cut_raster file w h m s f left;
+          header_cut = λ left. cut_header file p.width p.height p.maximum p.start f left;
+          raster_cut = λ left. cut_raster file p.width p.height p.maximum p.start f left;
         }

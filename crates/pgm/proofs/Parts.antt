@@ -19,9 +19,8 @@ use Rattle.pgm.specs.Page.Gap.{starts}
 use Rattle.pgm.specs.Page.GapRest.{done, white, comment, remark, newline}
 use Rattle.pgm_header.specs.declared.Move.{Move}
 use Rattle.pgm_header.specs.declared.Move.TheVariants.{White, Digit, Comment, Foreign}
-use Rattle.pgm_header.specs.declared.Part.TheVariants.{Value}
 use Rattle.pgm_header.proofs.Moves.{comment_35}
-use Rattle.pgm_header.proofs.Parts.{part_at}
+use Rattle.pgm_header.proofs.Parts.{found_number, part_at}
 use Rattle.pgm_header.proofs.Scan.{white_below, Stops, stops_at}
 use Rattle.pgm_header.proofs.Whole.{part_found}
 
@@ -152,7 +151,7 @@ module _ (file : List ℕ) (at : ℕ) where
       let w = both_true (ltb at (length file)) (white_move (move_of (get_or file at 0))) e in
       (sym (white_byte (get_or file at 0)) ∙ w.1, from_here file at (white_below file at e))
 
-  pub part_stands : (number after : ℕ) → part_at file at ≡ Value number after → PartAt file at number after
+  pub part_stands : (number after : ℕ) → part_at file at ≡ found_number number after → PartAt file at number after
   part_stands number after e =
       let p = part_found file at number after e in
       let s : List ℕ = drop at file in
@@ -198,14 +197,14 @@ gap_stops (starts {b} {s} w g) r = white_stops b (s ++ r) w
 -- a number is read at a position, and rest stands after it
 pub record PartRead (file : List ℕ) (at number : ℕ) (rest : List ℕ) : Type 0 where
   pub after : ℕ
-  pub read : part_at file at ≡ Value number after
+  pub read : part_at file at ≡ found_number number after
   pub stands : drop after file ≡ rest
 
 module _ (number : ℕ) (digits rest : List ℕ) (n : Number digits number) (stop : Stops rest 0) where
   count_read : digit_count (digits ++ rest) ≡ length digits
   count_read = (digits_then digits rest n.all_digits).counted ∙ omega (arith, stop.none)
 
-  number_read : (file : List ℕ) (at : ℕ) → drop at file ≡ digits ++ rest → number_at file at ≡ Value number (at + length digits)
+  number_read : (file : List ℕ) (at : ℕ) → drop at file ≡ digits ++ rest → number_at file at ≡ found_number number (at + length digits)
   unfolding number_at
   number_read file at e =
       let value : decimal_value 0 (digits ++ rest) ≡ number = (digits_then digits rest n.all_digits).valued 0 ∙ stop.kept (decimal_value 0 digits) ∙ n.value in

@@ -1,4 +1,5 @@
 -- Pictures that are written end to end and read again are the same pictures, greys and maximum, each by its number. A written file is a page. Assumes nothing.
+use Rattle.std.specs.Prelude.{Ok, Err}
 use Prim.Native.Nat.{ℕ, ◌+◌, ◌*◌, ◌-◌, ◌^◌, ◌≤◌, ◌<◌}
 use mathlib.Core.Path.{◌≡◌, refl, sym, ◌∙◌}
 use mathlib.Core.Bool.{Bool, true, false}
@@ -11,7 +12,7 @@ use lib.ListN.{length, take, drop}
 use lib.Seq.{take_at}
 use borrow.Author.Tests.{ltb-true, ltb-false}
 use Rattle.pgm_header.specs.Header.{most_digits, digit_count, decimal_value}
-use Rattle.pgm_read.specs.Read.{read_answer, raster_of}
+use Rattle.pgm_read.specs.Read.{found_picture, read_answer, raster_of}
 use Rattle.pgm_write.specs.Write.{digits_of, pgm_file, write_answer, buffer_after}
 use Rattle.pgm.specs.Page.{Number, Page}
 use Rattle.pgm.specs.Page.Gap.{starts}
@@ -20,8 +21,6 @@ use Rattle.pgm.specs.Burst.{Pages, WrittenInTurn}
 use Rattle.pgm.specs.Burst.Pages.{none as no_pages, then as one_page}
 use Rattle.pgm.specs.Burst.WrittenInTurn.{none, then}
 use Rattle.causes.specs.declared.Cause.TheVariants.{PictureNumber}
-use Rattle.pgm_read.specs.declared.Found.TheVariants.{Picture, Refused}
-use Rattle.pgm_write.specs.declared.Written.TheVariants.{Bytes}
 use Rattle.pgm_write.proofs.Decimals.{count_decimal, value_decimal, length_decimal, length_short, length_long}
 use Rattle.pgm_write.proofs.Files.{file_length}
 use Rattle.pgm_write.proofs.Judging.{Writable, writable_is, Fields, fields_fit}
@@ -71,12 +70,12 @@ module _ {picture : List ℕ} {width height maximum room total : ℕ} (w : Writa
         samples_within = w.samples_right;
       }
 
-written_file : (picture : List ℕ) (width height maximum : ℕ) (buffer : List ℕ) (total : ℕ) → write_answer picture width height maximum (length buffer) ≡ Bytes total → take total (buffer_after picture width height maximum buffer) ≡ pgm_file picture width height maximum
+written_file : (picture : List ℕ) (width height maximum : ℕ) (buffer : List ℕ) (total : ℕ) → write_answer picture width height maximum (length buffer) ≡ Ok total → take total (buffer_after picture width height maximum buffer) ≡ pgm_file picture width height maximum
 unfolding buffer_after
 written_file picture width height maximum buffer total e =
     rw e (take_at (pgm_file picture width height maximum) (drop total buffer) total (sym (writable_is picture width height maximum (length buffer) total e).total_right))
 
-written_page : (picture : List ℕ) (width height maximum : ℕ) (buffer : List ℕ) (total : ℕ) → write_answer picture width height maximum (length buffer) ≡ Bytes total → Page (take total (buffer_after picture width height maximum buffer)) width height maximum (total - width * height) picture
+written_page : (picture : List ℕ) (width height maximum : ℕ) (buffer : List ℕ) (total : ℕ) → write_answer picture width height maximum (length buffer) ≡ Ok total → Page (take total (buffer_after picture width height maximum buffer)) width height maximum (total - width * height) picture
 written_page picture width height maximum buffer total e =
     rw (written_file picture width height maximum buffer total e) (file_page (writable_is picture width height maximum (length buffer) total e))
 
@@ -86,9 +85,9 @@ written_pages none = no_pages
 written_pages (then picture width height maximum buffer total e rest) =
     one_page (written_page picture width height maximum buffer total e) (written_pages rest)
 
-module _ (picture : List ℕ) (width height maximum : ℕ) (buffer : List ℕ) (total : ℕ) (e : write_answer picture width height maximum (length buffer) ≡ Bytes total) where
+module _ (picture : List ℕ) (width height maximum : ℕ) (buffer : List ℕ) (total : ℕ) (e : write_answer picture width height maximum (length buffer) ≡ Ok total) where
   -- "Round trip covers greys and maximum", and "covers the sequence written"
-  pub round_trip : {earlier later : ℕ} {before after : List ℕ} → WrittenInTurn earlier before → WrittenInTurn later after → let file : List ℕ = before ++ take total (buffer_after picture width height maximum buffer) ++ after in (read_answer file (earlier + 1) ≡ Picture width height maximum (length before + (total - width * height))) × (raster_of file (earlier + 1) ≡ picture)
+  pub round_trip : {earlier later : ℕ} {before after : List ℕ} → WrittenInTurn earlier before → WrittenInTurn later after → let file : List ℕ = before ++ take total (buffer_after picture width height maximum buffer) ++ after in (read_answer file (earlier + 1) ≡ found_picture width height maximum (length before + (total - width * height))) × (raster_of file (earlier + 1) ≡ picture)
   round_trip b a =
       page_accepted (record {
         before = _;
@@ -106,10 +105,10 @@ module _ (picture : List ℕ) (width height maximum : ℕ) (buffer : List ℕ) (
       })
 
 -- a picture that is written alone
-pub round_trip_alone : (picture : List ℕ) (width height maximum : ℕ) (buffer : List ℕ) (total : ℕ) → write_answer picture width height maximum (length buffer) ≡ Bytes total → let file : List ℕ = take total (buffer_after picture width height maximum buffer) in (read_answer file 1 ≡ Picture width height maximum (total - width * height)) × (raster_of file 1 ≡ picture)
+pub round_trip_alone : (picture : List ℕ) (width height maximum : ℕ) (buffer : List ℕ) (total : ℕ) → write_answer picture width height maximum (length buffer) ≡ Ok total → let file : List ℕ = take total (buffer_after picture width height maximum buffer) in (read_answer file 1 ≡ found_picture width height maximum (total - width * height)) × (raster_of file 1 ≡ picture)
 round_trip_alone picture width height maximum buffer total e =
     rw (append-nil, zero-add (total - width * height)) at (round_trip picture width height maximum buffer total e none none)
 
 -- the count is theirs: no other number is accepted
-pub round_trip_count : {file : List ℕ} {count : ℕ} → WrittenInTurn count file → 1 ≤ count → (number : ℕ) → (number ≡ 0) ⊎ (count < number) → read_answer file number ≡ Refused PictureNumber
+pub round_trip_count : {file : List ℕ} {count : ℕ} → WrittenInTurn count file → 1 ≤ count → (number : ℕ) → (number ≡ 0) ⊎ (count < number) → read_answer file number ≡ Err PictureNumber
 round_trip_count w = beyond (written_pages w)

@@ -1,5 +1,6 @@
 -- A picture is accepted at a position exactly if a page stands there. `page_stands` gives the page of an accepted picture; `page_read`
 -- gives the answer where a page stands. Assumes nothing.
+use Rattle.pgm_header.proofs.Parts.{found_header}
 use Prim.Native.Nat.{ℕ, ◌+◌, ◌*◌, ◌-◌, ◌≤◌, ◌<◌}
 use mathlib.Core.Path.{◌≡◌, refl, sym, ◌∙◌, ap}
 use mathlib.Core.Bool.{true, ◌&&◌}
@@ -11,11 +12,9 @@ use lib.Seq.{drop-drop, take_at}
 use borrow.Author.Tests.{le-leb, leb-true, eqb-true}
 use Rattle.causes.proofs.Laws.{both_true, bounded, some_pixel}
 use Rattle.pgm_header.specs.Header.{sign, starts_with_sign, white_at, header_at}
-use Rattle.pgm_header.specs.declared.Header.TheVariants.{Read}
 use Rattle.pgm_header.proofs.Scan.{whole_header}
 use Rattle.pgm_header.proofs.Whole.{header_read, header_after}
-use Rattle.pgm_read.specs.Read.{judged, picture_at}
-use Rattle.pgm_read.specs.declared.Found.TheVariants.{Picture}
+use Rattle.pgm_read.specs.Read.{found_picture, judged, picture_at}
 use Rattle.pgm_read.proofs.Judging.{Accepted, accepted, signed, judged_picture}
 use Rattle.pgm.specs.Page.{Page}
 use Rattle.pgm.proofs.Parts.{part_stands, white_here, drop_past, white_stands, part_read, white_stops, gap_stops}
@@ -51,7 +50,7 @@ pub record PageAt (file : List ℕ) (at width height maximum start : ℕ) : Type
   pub page_right : Page page width height maximum own (take (width * height) (drop start file))
   pub start_right : start ≡ at + own
 
-module _ (file : List ℕ) (at width height maximum start : ℕ) (e : picture_at file at ≡ Picture width height maximum start) where
+module _ (file : List ℕ) (at width height maximum start : ℕ) (e : picture_at file at ≡ found_picture width height maximum start) where
   pub page_stands : PageAt file at width height maximum start
   page_stands =
       let s = accepted file at width height maximum start e in
@@ -106,7 +105,7 @@ module _ (file : List ℕ) (at width height maximum start : ℕ) (e : picture_at
       }
 
 -- what passes every test is answered as a picture
-picture_accepted : (file : List ℕ) (at : ℕ) {width height maximum start : ℕ} → starts_with_sign (drop at file) ≡ true → Accepted file (header_at file (at + 2)) width height maximum start → picture_at file at ≡ Picture width height maximum start
+picture_accepted : (file : List ℕ) (at : ℕ) {width height maximum start : ℕ} → starts_with_sign (drop at file) ≡ true → Accepted file (header_at file (at + 2)) width height maximum start → picture_at file at ≡ found_picture width height maximum start
 picture_accepted file at {width} {height} {maximum} {start} s a =
     sym (signed file at s)
     ∙ ap (judged file) a.header
@@ -114,7 +113,7 @@ picture_accepted file at {width} {height} {maximum} {start} s a =
 
 -- and so the picture of a page that stands at a position is accepted, with the values of the page
 module _ (file : List ℕ) (at : ℕ) {page raster : List ℕ} {width height maximum own : ℕ} (p : Page page width height maximum own raster) (rest : List ℕ) (stands : drop at file ≡ page ++ rest) where
-  pub page_read : (picture_at file at ≡ Picture width height maximum (at + own)) × (take (width * height) (drop (at + own) file) ≡ raster)
+  pub page_read : (picture_at file at ≡ found_picture width height maximum (at + own)) × (take (width * height) (drop (at + own) file) ≡ raster)
   page_read =
       let s₃ : List ℕ = p.last ∷ (raster ++ rest) in
       let s₂ : List ℕ = p.gap₃ ++ (p.digits₃ ++ s₃) in
@@ -140,7 +139,7 @@ module _ (file : List ℕ) (at : ℕ) {page raster : List ℕ} {width height max
         picture_accepted file at (ap starts_with_sign l ∙ sign_first s₀) (record {
           header =
               sym (whole_header file (at + 2) width w.after w.read height h.after h.read maximum m.after m.read last)
-              ∙ ap (Read width height maximum) place;
+              ∙ ap (λ (s : ℕ). found_header width height maximum s) place;
           maximum_right = p.maximum_within;
           sides_right = p.sides_within;
           length_right = omega (arith, some, here, p.start_right, p.raster_length);

@@ -1,10 +1,9 @@
 -- A file as a sequence of pages, "several pictures end to end, as the Netpbm page allows".
+use Rattle.std.specs.Prelude.{Ok, Err}
 use Rattle.std.specs.Prelude.{ℕ, suc, ◌+◌, ◌≤◌, ◌≡◌, List, [], ◌++◌, ◌⊎◌, length, take}
 use Rattle.causes.specs.declared.Cause.{Cause}
 use Rattle.pgm_read.specs.Read.{picture_at}
-use Rattle.pgm_read.specs.declared.Found.TheVariants.{Refused}
 use Rattle.pgm_write.specs.Write.{write_answer, buffer_after}
-use Rattle.pgm_write.specs.declared.Written.TheVariants.{Bytes}
 use Rattle.pgm.specs.Page.{Page}
 
 -- so many pages, end to end
@@ -39,13 +38,13 @@ pub record FirstFaulty (file : List ℕ) (cause : Cause) : Type 0 where
   pub layout : file ≡ before ++ rest
   pub before_right : Pages earlier before
   pub more : (earlier ≡ 0) ⊎ (1 ≤ length rest)
-  pub faulty : picture_at file (length before) ≡ Refused cause
+  pub faulty : picture_at file (length before) ≡ Err cause
 
 -- "the sequence written": the bytes of so many accepted calls of the writer, one after the other
 pub data WrittenInTurn : ℕ → List ℕ → Type 0 where
   none : WrittenInTurn 0 []
   then :
       (picture : List ℕ) (width height maximum : ℕ) (buffer : List ℕ) (total : ℕ) {count : ℕ} {rest : List ℕ}
-      → write_answer picture width height maximum (length buffer) ≡ Bytes total
+      → write_answer picture width height maximum (length buffer) ≡ Ok total
       → WrittenInTurn count rest
       → WrittenInTurn (suc count) (take total (buffer_after picture width height maximum buffer) ++ rest)

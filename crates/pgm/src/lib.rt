@@ -3,5 +3,5 @@
 // a file that is cut short answers.
 #![tactic(auto)]
 
-pub use pgm_read::{Found, raster, read};
-pub use pgm_write::{Written, write};
+pub use pgm_read::{Picture, raster, read};
+pub use pgm_write::write;

@@ -6,39 +6,55 @@ use mathlib.Core.Path.{◌≡◌, refl, sym, ◌∙◌, ap}
 use mathlib.Core.Bool.{Bool, true, false, cond}
 use mathlib.Core.List.{List}
 use lib.ListN.{drop}
-use Rattle.pgm_header.specs.Header.{gap_length, white_at, number_at, gap_at, gap_then, number_then, one_white_then, header_at}
-use Rattle.pgm_header.specs.declared.GapFound.{GapFound}
-use Rattle.pgm_header.specs.declared.GapFound.TheVariants.{Ends, Missing}
-use Rattle.pgm_header.specs.declared.Part.{Part}
-use Rattle.pgm_header.specs.declared.Part.TheVariants.{Value, Broken}
+use Rattle.std.specs.Prelude.{Option, Some, None}
+use Rattle.std.proofs.lemmas.Option.{same_Some}
+use Rattle.pgm_header.specs.declared.Number.{Number}
 use Rattle.pgm_header.specs.declared.Header.{Header}
-use Rattle.pgm_header.specs.declared.Header.TheVariants.{Read, Broken as BrokenHeader}
+use Rattle.pgm_header.specs.Header.{gap_length, white_at, number_at, gap_at, gap_then, number_then, one_white_then, header_at}
+
+-- a number and the position after it, and a header, as they are found
+abbrev pub found_number : ℕ → ℕ → Option Number
+found_number value end = Some (record { value = value; end = end })
+
+abbrev pub found_header : ℕ → ℕ → ℕ → ℕ → Option Header
+found_header width height maximum start = Some (record { width = width; height = height; maximum = maximum; start = start })
+
+-- each of their fields is determined
+pub number_parts : (value end value' end' : ℕ) → found_number value end ≡ found_number value' end' → (value ≡ value') × (end ≡ end')
+number_parts value end value' end' e =
+    let n : ◌≡◌ {A = Number} (record { value = value; end = end }) (record { value = value'; end = end' }) = same_Some _ _ e in
+    (ap (λ (n : Number). n.value) n, ap (λ (n : Number). n.end) n)
+
+pub header_parts : (w h m s w' h' m' s' : ℕ) → found_header w h m s ≡ found_header w' h' m' s' → (w ≡ w') × (h ≡ h') × (m ≡ m') × (s ≡ s')
+header_parts w h m s w' h' m' s' e =
+    let n : ◌≡◌ {A = Header} (record { width = w; height = h; maximum = m; start = s }) (record { width = w'; height = h'; maximum = m'; start = s' }) = same_Some _ _ e in
+    (ap (λ (n : Header). n.width) n, ap (λ (n : Header). n.height) n, ap (λ (n : Header). n.maximum) n, ap (λ (n : Header). n.start) n)
 
 -- a gap, then a number
-unfoldable pub part_at : List ℕ → ℕ → Part
-part_at file at = cond (white_at file at) (number_at file (at + gap_length false (drop at file))) Broken
+unfoldable pub part_at : List ℕ → ℕ → Option Number
+part_at file at = cond (white_at file at) (number_at file (at + gap_length false (drop at file))) None
 
 -- one white byte, with which the header ends
-unfoldable pub last_white_at : List ℕ → ℕ → ℕ → Part → Header
-last_white_at file width height Broken = BrokenHeader
-last_white_at file width height (Value maximum at) = cond (white_at file at) (Read width height maximum (at + 1)) BrokenHeader
+unfoldable pub last_white_at : List ℕ → ℕ → ℕ → Option Number → Option Header
+last_white_at file width height None = None
+last_white_at file width height (Some maximum) = cond (white_at file maximum.end) (found_header width height maximum.value (maximum.end + 1)) None
 
-unfoldable pub maximum_at : List ℕ → ℕ → Part → Header
-maximum_at file width Broken = BrokenHeader
-maximum_at file width (Value height at) = last_white_at file width height (part_at file at)
+unfoldable pub maximum_at : List ℕ → ℕ → Option Number → Option Header
+maximum_at file width None = None
+maximum_at file width (Some height) = last_white_at file width height.value (part_at file height.end)
 
-unfoldable pub height_at : List ℕ → Part → Header
-height_at file Broken = BrokenHeader
-height_at file (Value width at) = maximum_at file width (part_at file at)
+unfoldable pub height_at : List ℕ → Option Number → Option Header
+height_at file None = None
+height_at file (Some width) = maximum_at file width.value (part_at file width.end)
 
 -- the number after a gap
-abbrev pub gap_part : List ℕ → GapFound → Part
-gap_part file (Ends from) = number_at file from
-gap_part file Missing = Broken
+abbrev pub gap_part : List ℕ → Option ℕ → Option Number
+gap_part file (Some from) = number_at file from
+gap_part file None = None
 
 module _ (file : List ℕ) where
   -- a gap and a number, one after the other, are a part
-  pub part_by_gap : (at : ℕ) (g : GapFound) → gap_at file at ≡ g → part_at file at ≡ gap_part file g
+  pub part_by_gap : (at : ℕ) (g : Option ℕ) → gap_at file at ≡ g → part_at file at ≡ gap_part file g
   unfolding part_at gap_at
   part_by_gap at g e = go (white_at file at) refl ∙ ap (gap_part file) e
     where
@@ -46,37 +62,37 @@ module _ (file : List ℕ) where
       go true w = simp w
       go false w = simp w
 
-  one_part : (at : ℕ) (next : ℕ → ℕ → Header) → gap_then (gap_at file at) (λ from. number_then (number_at file from) next) ≡ number_then (part_at file at) next
+  one_part : (at : ℕ) (next : ℕ → ℕ → Option Header) → gap_then (gap_at file at) (λ from. number_then (number_at file from) next) ≡ number_then (part_at file at) next
   one_part at next = go (gap_at file at) refl
     where
-      go : (g : GapFound) → gap_at file at ≡ g → gap_then g (λ from. number_then (number_at file from) next) ≡ number_then (part_at file at) next
-      go (Ends from) e = ap (λ (p : Part). number_then p next) (sym (part_by_gap at (Ends from) e))
-      go Missing e = ap (λ (p : Part). number_then p next) (sym (part_by_gap at Missing e))
+      go : (g : Option ℕ) → gap_at file at ≡ g → gap_then g (λ from. number_then (number_at file from) next) ≡ number_then (part_at file at) next
+      go (Some from) e = ap (λ (p : Option Number). number_then p next) (sym (part_by_gap at (Some from) e))
+      go None e = ap (λ (p : Option Number). number_then p next) (sym (part_by_gap at None e))
 
   -- the steps after each number
-  after_maximum : ℕ → ℕ → ℕ → ℕ → Header
-  after_maximum width height maximum end = one_white_then file end (λ start. Read width height maximum start)
+  after_maximum : ℕ → ℕ → ℕ → ℕ → Option Header
+  after_maximum width height maximum end = one_white_then file end (λ start. found_header width height maximum start)
 
-  after_height : ℕ → ℕ → ℕ → Header
+  after_height : ℕ → ℕ → ℕ → Option Header
   after_height width height end = gap_then (gap_at file end) (λ from. number_then (number_at file from) (after_maximum width height))
 
-  after_width : ℕ → ℕ → Header
+  after_width : ℕ → ℕ → Option Header
   after_width width end = gap_then (gap_at file end) (λ from. number_then (number_at file from) (after_height width))
 
-  last_same : (width height : ℕ) (p : Part) → number_then p (after_maximum width height) ≡ last_white_at file width height p
+  last_same : (width height : ℕ) (p : Option Number) → number_then p (after_maximum width height) ≡ last_white_at file width height p
   unfolding after_maximum last_white_at
-  last_same width height Broken = refl
-  last_same width height (Value maximum end) = refl
+  last_same width height None = refl
+  last_same width height (Some maximum) = refl
 
-  maximum_same : (width : ℕ) (p : Part) → number_then p (after_height width) ≡ maximum_at file width p
+  maximum_same : (width : ℕ) (p : Option Number) → number_then p (after_height width) ≡ maximum_at file width p
   unfolding after_height maximum_at
-  maximum_same width Broken = refl
-  maximum_same width (Value height end) = one_part end (after_maximum width height) ∙ last_same width height (part_at file end)
+  maximum_same width None = refl
+  maximum_same width (Some height) = one_part height.end (after_maximum width height.value) ∙ last_same width height.value (part_at file height.end)
 
-  height_same : (p : Part) → number_then p after_width ≡ height_at file p
+  height_same : (p : Option Number) → number_then p after_width ≡ height_at file p
   unfolding after_width height_at
-  height_same Broken = refl
-  height_same (Value width end) = one_part end (after_height width) ∙ maximum_same width (part_at file end)
+  height_same None = refl
+  height_same (Some width) = one_part width.end (after_height width.value) ∙ maximum_same width.value (part_at file width.end)
 
   pub in_parts : (at : ℕ) → header_at file at ≡ height_at file (part_at file at)
   unfolding header_at after_maximum after_height after_width

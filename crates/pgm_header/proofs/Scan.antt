@@ -8,16 +8,14 @@ use native.Mathlib.Nat.{add-zero, pow-suc, pow-le-pow_right}
 use native.Mathlib.Omega.{arith}
 use lib.Dec.{eqb, leb, ltb}
 use lib.ListN.{length, get_or, drop, drop_of_length-le}
-use borrow.Author.Tests.{le-leb, lt-leb, eq-eqb, leb-true, ltb-true}
+use borrow.Author.Tests.{le-leb, lt-leb, leb-true, ltb-true}
 use Rattle.causes.proofs.Laws.{both_true}
 use Rattle.causes.proofs.Lists.{from_here}
 use Rattle.pgm_header.specs.Bytes.{move_of, is_white, is_digit, white_move, digit_move, ends_comment}
-use Rattle.pgm_header.specs.Header.{starts_with_sign, gap_length, digit_count, decimal_value, most_digits, finished_number, number_at, white_at, gap_at, header_at}
-use Rattle.pgm_header.proofs.Parts.{part_at, last_white_at, maximum_at, height_at, in_parts}
+use Rattle.pgm_header.specs.Header.{gap_length, digit_count, decimal_value, most_digits, finished_number, number_at, white_at, header_at}
+use Rattle.std.specs.Prelude.{None}
+use Rattle.pgm_header.proofs.Parts.{found_number, found_header, part_at, last_white_at, maximum_at, height_at, in_parts}
 use Rattle.pgm_header.specs.declared.Move.TheVariants.{White, Digit, Comment, Foreign}
-use Rattle.pgm_header.specs.declared.GapFound.TheVariants.{Ends, Missing}
-use Rattle.pgm_header.specs.declared.Part.TheVariants.{Value, Broken}
-use Rattle.pgm_header.specs.declared.Header.TheVariants.{Read, Broken as BrokenHeader}
 
 module _ (file : List ℕ) (at : ℕ) where
   pub gap_past_end : (inside : Bool) → length file ≤ at → at + gap_length inside (drop at file) ≡ at
@@ -49,9 +47,6 @@ module _ (file : List ℕ) (at : ℕ) where
     unfolding gap_length
     gap_comment_end e = rw (from_here file at h, e) (omega arith)
 
-pub second_of_sign : (file : List ℕ) → 2 ≤ length file → get_or file 0 0 ≡ 80 → eqb (get_or file 1 0) 53 ≡ starts_with_sign file
-second_of_sign file long first = simp (le-leb 2 (length file) long, eq-eqb (get_or file 0 0) 80 first)
-
 digit_of_move : (white digit comment : Bool) → digit_move (cond white White (cond digit Digit (cond comment Comment Foreign))) ≡ true → digit ≡ true
 digit_of_move white true comment e = refl
 digit_of_move true false comment e = e
@@ -72,10 +67,6 @@ pub record Reading (file : List ℕ) (from at value count : ℕ) : Type 0 where
   pub place : at ≡ from + count
   pub few : count ≤ most_digits
   pub small : value < 10 ^ count
-
-pub reading_none : (file : List ℕ) (from : ℕ) → Reading file from from 0 0
-reading_none file from =
-    record { counted = omega arith; valued = refl; place = omega arith; few = omega arith; small = omega arith }
 
 -- there is room for one digit more: a value of fewer digits than the most
 pub value_small : {file : List ℕ} {from at value count : ℕ} → Reading file from at value count → (count ≡ most_digits → ⊥) → value * 10 + 9 < 10 ^ most_digits
@@ -119,49 +110,26 @@ module _ (file : List ℕ) (at : ℕ) (h : at < length file) where
             small = rw (add-one count, pow-suc 10 count) (omega (arith, r.small, digit_range (get_or file at 0) digit));
           }
 
-      pub reading_long : count ≡ most_digits → Broken ≡ number_at file from
+      pub reading_long : count ≡ most_digits → None ≡ number_at file from
       unfolding number_at
       reading_long e = simp (lt-leb (digit_count (drop from file)) most_digits (omega (arith, r.counted, one_digit_more)))
 
-pub reading_done : (file : List ℕ) (from at value count : ℕ) → Reading file from at value count → Stops file at → finished_number value count at ≡ number_at file from
+pub reading_done : (file : List ℕ) (from at value count : ℕ) → Reading file from at value count → Stops file at → finished_number value count (from + count) ≡ number_at file from
 unfolding number_at
 reading_done file from at value count r s =
     let c : digit_count (drop from file) ≡ count = omega (arith, r.counted, s.none) in
     let v : decimal_value 0 (drop from file) ≡ value = r.valued ∙ s.kept value in
-    simp (c, v, le-leb count most_digits r.few, ← r.place)
+    simp (c, v, le-leb count most_digits r.few)
 
 pub white_below : (file : List ℕ) (at : ℕ) → white_at file at ≡ true → at < length file
 white_below file at e = ltb-true at (length file) (both_true (ltb at (length file)) (white_move (move_of (get_or file at 0))) e).0
 
-pub gap_ends : (file : List ℕ) (at end : ℕ) → white_at file at ≡ true → end ≡ at + gap_length false (drop at file) → Ends end ≡ gap_at file at
-unfolding gap_at
-gap_ends file at end white e = simp (white, e)
-
-pub gap_missing : (file : List ℕ) (at : ℕ) → white_at file at ≡ false → Missing ≡ gap_at file at
-unfolding gap_at
-gap_missing file at e = simp e
-
--- the header, part by part: where it breaks, and where it does not
-module _ (file : List ℕ) (at : ℕ) where
-  pub no_width : part_at file at ≡ Broken → BrokenHeader ≡ header_at file at
-  unfolding height_at
-  no_width e = rw (in_parts file at, e)
-
-  module _ (width a : ℕ) (e : part_at file at ≡ Value width a) where
-    pub no_height : part_at file a ≡ Broken → BrokenHeader ≡ header_at file at
-    unfolding height_at maximum_at
-    no_height f = rw (in_parts file at, e, f)
-
-    module _ (height b : ℕ) (f : part_at file a ≡ Value height b) where
-      pub no_maximum : part_at file b ≡ Broken → BrokenHeader ≡ header_at file at
-      unfolding height_at maximum_at last_white_at
-      no_maximum g = rw (in_parts file at, e, f, g)
-
-      module _ (maximum c : ℕ) (g : part_at file b ≡ Value maximum c) where
-        pub no_last_white : white_at file c ≡ false → BrokenHeader ≡ header_at file at
-        unfolding height_at maximum_at last_white_at
-        no_last_white w = simp (in_parts file at, e, f, g, w)
-
-        pub whole_header : white_at file c ≡ true → Read width height maximum (c + 1) ≡ header_at file at
-        unfolding height_at maximum_at last_white_at
-        whole_header w = simp (in_parts file at, e, f, g, w)
+-- the header, from its parts
+pub whole_header :
+    (file : List ℕ) (at width a : ℕ) → part_at file at ≡ found_number width a
+    → (height b : ℕ) → part_at file a ≡ found_number height b
+    → (maximum c : ℕ) → part_at file b ≡ found_number maximum c
+    → white_at file c ≡ true
+    → found_header width height maximum (c + 1) ≡ header_at file at
+unfolding height_at maximum_at last_white_at
+whole_header file at width a e height b f maximum c g w = simp (in_parts file at, e, f, g, w)

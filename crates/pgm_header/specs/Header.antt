@@ -1,13 +1,9 @@
 -- The header of a picture, read from a position on in the order of the Netpbm page. The parts are numbered as they stand in its list: 1. the
 -- sign, 2. white, 3. the width, 4. white, 5. the height, 6. white, 7. the maximum, 8. one white byte, and then 9. the raster.
-use Rattle.std.specs.Prelude.{ℕ, suc, ◌+◌, ◌*◌, ◌-◌, Bool, true, false, not, cond, ◌&&◌, List, [], ◌∷◌, length, get_or, drop, leb, ltb, eqb}
+use Rattle.std.specs.Prelude.{ℕ, suc, ◌+◌, ◌*◌, ◌-◌, Bool, true, false, not, cond, ◌&&◌, List, [], ◌∷◌, length, get_or, drop, leb, ltb, eqb, Option, Some, None}
 use Rattle.pgm_header.specs.Bytes.{move_of, by_move, white_move, digit_move, ends_comment}
-use Rattle.pgm_header.specs.declared.GapFound.{GapFound}
-use Rattle.pgm_header.specs.declared.GapFound.TheVariants.{Ends, Missing}
-use Rattle.pgm_header.specs.declared.Part.{Part}
-use Rattle.pgm_header.specs.declared.Part.TheVariants.{Value, Broken}
+use Rattle.pgm_header.specs.declared.Number.{Number}
 use Rattle.pgm_header.specs.declared.Header.{Header}
-use Rattle.pgm_header.specs.declared.Header.TheVariants.{Read, Broken as BrokenHeader}
 
 -- 1. "The file starts with the two bytes "P5"."
 abbrev pub sign : List ℕ
@@ -38,40 +34,40 @@ decimal_value v [] = v
 decimal_value v (b ∷ s) = cond (digit_move (move_of b)) (decimal_value (v * 10 + (b - 48)) s) v
 
 -- a number that ends at a position after count digits
-abbrev pub finished_number : ℕ → ℕ → ℕ → Part
-finished_number value count at = cond (eqb count 0) Broken (Value value at)
+abbrev pub finished_number : ℕ → ℕ → ℕ → Option Number
+finished_number value count at = cond (eqb count 0) None (Some (record { value = value; end = at }))
 
 -- the most digits of a number
 abbrev pub most_digits : ℕ
 most_digits = 7
 
 -- 3., 5., 7. "A number has 1 to 7 digits, leading zeros allowed." Its value, and the position after it
-unfoldable pub number_at : List ℕ → ℕ → Part
+unfoldable pub number_at : List ℕ → ℕ → Option Number
 number_at file at =
     cond
     (leb (digit_count (drop at file)) most_digits)
     (finished_number (decimal_value 0 (drop at file)) (digit_count (drop at file)) (at + digit_count (drop at file)))
-    Broken
+    None
 
 -- 2., 4., 6. a gap, and where it ends
-unfoldable pub gap_at : List ℕ → ℕ → GapFound
-gap_at file at = cond (white_at file at) (Ends (at + gap_length false (drop at file))) Missing
+unfoldable pub gap_at : List ℕ → ℕ → Option ℕ
+gap_at file at = cond (white_at file at) (Some (at + gap_length false (drop at file))) None
 
 -- A step hands on where its part ends, that of a number also the value; where it does not find its part, the header is broken
-abbrev pub gap_then : GapFound → (ℕ → Header) → Header
-gap_then (Ends end) next = next end
-gap_then Missing next = BrokenHeader
+abbrev pub gap_then : Option ℕ → (ℕ → Option Header) → Option Header
+gap_then (Some end) next = next end
+gap_then None next = None
 
-abbrev pub number_then : Part → (ℕ → ℕ → Header) → Header
-number_then (Value number end) next = next number end
-number_then Broken next = BrokenHeader
+abbrev pub number_then : Option Number → (ℕ → ℕ → Option Header) → Option Header
+number_then (Some number) next = next number.value number.end
+number_then None next = None
 
 -- 8. "exactly one white byte"
-abbrev pub one_white_then : List ℕ → ℕ → (ℕ → Header) → Header
-one_white_then file at next = cond (white_at file at) (next (at + 1)) BrokenHeader
+abbrev pub one_white_then : List ℕ → ℕ → (ℕ → Option Header) → Option Header
+one_white_then file at next = cond (white_at file at) (next (at + 1)) None
 
 -- "Then a gap, width, gap, height, gap, maximum grey, exactly one white byte": the header of a picture whose sign ends at a position
-unfoldable pub header_at : List ℕ → ℕ → Header
+unfoldable pub header_at : List ℕ → ℕ → Option Header
 header_at file at =
     -- 2. "Whitespace"
     gap_then (gap_at file at) (λ width_start.
@@ -87,4 +83,4 @@ header_at file at =
     number_then (number_at file maximum_start) (λ maximum maximum_end.
     -- 8. "A single whitespace character"
     one_white_then file maximum_end (λ start.
-    Read width height maximum start)))))))
+    Some (record { width = width; height = height; maximum = maximum; start = start }))))))))

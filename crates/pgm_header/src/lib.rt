@@ -5,13 +5,12 @@
 #![tactic(auto)]
 
 ghost use Rattle.std.specs.Prelude.{◌≡◌, false, ◌+◌, drop};
-ghost use Rattle.pgm_header.specs.Bytes.{move_of, white_move, digit_move, ends_comment};
+ghost use Rattle.pgm_header.specs.Bytes.{move_of, ends_comment};
 ghost use Rattle.pgm_header.specs.Header.{starts_with_sign, gap_length, finished_number, number_at, white_at, gap_at, header_at};
 
 pub mod reader;
 
-// "P5"
-pub const MAGIC: [u8; 2] = [80, 53];
+pub const MAGIC: [u8; MAGIC_LENGTH] = *b"P5";
 
 // How many bytes the magic has.
 pub const MAGIC_LENGTH: usize = 2;
@@ -20,7 +19,7 @@ pub const MAGIC_LENGTH: usize = 2;
 const MOST_DIGITS: usize = 7;
 
 // The header reader's next move, by the byte that it stands at.
-#[derive(Clone, Copy)]
+#[derive(Clone, Copy, PartialEq, Eq)]
 pub enum Move {
     White,
     Digit,
@@ -28,96 +27,59 @@ pub enum Move {
     Foreign,
 }
 
+#[tactic(auto, unfolding(crate::specs::Bytes::move_of))]
 fn sort(b: u8) -> Move
     ensures { result ≡ move_of b }
 {
     match b {
-        9 | 10 | 13 | 32 => Move::White,
-        48..=57 => Move::Digit,
-        35 => Move::Comment,
+        b'\t' | b'\n' | b'\r' | b' ' => Move::White,
+        b'0'..=b'9' => Move::Digit,
+        b'#' => Move::Comment,
         _ => Move::Foreign,
     }
 }
 
-fn is_white(m: Move) -> bool
-    ensures { result ≡ white_move m }
-{
-    match m {
-        Move::White => true,
-        Move::Digit => false,
-        Move::Comment => false,
-        Move::Foreign => false,
-    }
-}
-
-fn is_digit(m: Move) -> bool
-    ensures { result ≡ digit_move m }
-{
-    match m {
-        Move::White => false,
-        Move::Digit => true,
-        Move::Comment => false,
-        Move::Foreign => false,
-    }
-}
-
-// A gap: where it ends, or that there is none.
-#[derive(Clone, Copy)]
-enum GapFound {
-    Ends(usize),
-    Missing,
-}
-
 // A number of the header and the position after it.
 #[derive(Clone, Copy)]
-pub enum Part {
-    Value(u32, usize),
-    Broken,
+pub struct Number {
+    pub value: u32,
+    pub end: usize,
 }
 
+// What a header says, and the position after it, where the raster starts.
 #[derive(Clone, Copy)]
-pub enum Header {
-    Read {
-        width: u32,
-        height: u32,
-        maximum: u32,
-        start: usize,
-    },
-    Broken,
+pub struct Header {
+    pub width: u32,
+    pub height: u32,
+    pub maximum: u32,
+    pub start: usize,
 }
 
 // 1. "A "magic number" for identifying the file type": whether the file starts with it.
 pub fn has_sign(file: &[u8]) -> bool
     ensures answer { result ≡ starts_with_sign file.now }
 {
-    if file.len() < MAGIC_LENGTH {
-        return false;
-    }
-    if file[0] != MAGIC[0] {
-        return false;
-    }
-    file[1] == MAGIC[1]
+    file.starts_with(&MAGIC)
 }
 
 fn ends_comment(b: u8) -> bool
     ensures { result ≡ ends_comment b }
 {
-    b == 10 || b == 13
+    b == b'\n' || b == b'\r'
 }
 
-// The position past the white bytes and the comments from `from` on, where digits should start.
+// The position past the white bytes and the comments from `from` on, where digits should start. No `for`: a comment is hopped over, and both
+// loops are left by the label with that position.
 fn gap_end(file: &[u8], from: usize) -> usize
     ensures { result ≡ from + gap_length false (drop from file.now) }
 {
     let mut at = from;
-    let digits = 'gap: loop {
+    'gap: loop {
         if file.len() <= at {
             break 'gap at;
         }
         match sort(file[at]) {
-            Move::White => {
-                at += 1;
-            }
+            Move::White => at += 1,
             Move::Comment => {
                 at += 1;
                 loop {
@@ -134,100 +96,81 @@ fn gap_end(file: &[u8], from: usize) -> usize
             Move::Digit => break 'gap at,
             Move::Foreign => break 'gap at,
         }
-    };
-    digits
-}
-
-// The number that `count` digits before `at` wrote; none where there was no digit.
-fn finished(value: u32, count: usize, at: usize) -> Part
-    ensures { result ≡ finished_number value count at }
-{
-    if count == 0 {
-        Part::Broken
-    } else {
-        Part::Value(value, at)
     }
 }
 
-// 3., 5., 7. "formatted as ASCII characters in decimal": the number that stands at `from`.
-fn number_at(file: &[u8], from: usize) -> Part
+// The number that `count` digits before `end` wrote; none where there was no digit.
+fn finished(value: u32, count: usize, end: usize) -> Option<Number>
+    ensures { result ≡ finished_number value count end }
+{
+    (count != 0).then_some(Number { value, end })
+}
+
+// 3., 5., 7. "formatted as ASCII characters in decimal": the number that stands at `from`. Where it ends and whether it is too long is found here, which
+// the other readers of decimals, of steps and of case tables, need not find.
+fn number_at(file: &[u8], from: usize) -> Option<Number>
     ensures { result ≡ number_at file.now from }
 {
-    let mut at = from;
-    let mut value: u32 = 0;
-    let mut count: usize = 0;
-    while at < file.len() {
+    let mut value = 0;
+    let mut count = 0;
+    for at in from..file.len() {
         let b = file[at];
-        if !is_digit(sort(b)) {
-            return finished(value, count, at);
+        if sort(b) != Move::Digit {
+            break;
         }
         if count == MOST_DIGITS {
-            return Part::Broken;
+            return None;
         }
-        value = value * 10 + ((b - 48) as u32);
+        value = value * 10 + u32::from(b - b'0');
         count += 1;
-        at += 1;
     }
-    finished(value, count, at)
+    finished(value, count, from + count)
 }
 
 // Whether a white byte stands at `at`: a gap starts with one, and step 8 is one.
 fn white_at(file: &[u8], at: usize) -> bool
     ensures { result ≡ white_at file.now at }
 {
-    if file.len() <= at {
-        return false;
-    }
-    is_white(sort(file[at]))
+    at < file.len() && sort(file[at]) == Move::White
 }
 
-// 2., 4., 6. "Whitespace": the gap that stands at `at`.
-fn gap_at(file: &[u8], at: usize) -> GapFound
+// 2., 4., 6. "Whitespace": where the gap that stands at `at` ends.
+#[tactic(auto, unfolding(crate::specs::Header::gap_at))]
+fn gap_at(file: &[u8], at: usize) -> Option<usize>
     ensures { result ≡ gap_at file.now at }
 {
     if white_at(file, at) {
-        GapFound::Ends(gap_end(file, at))
+        Some(gap_end(file, at))
     } else {
-        GapFound::Missing
+        None
     }
 }
 
 // The header of a picture whose sign ends at `at`: steps 2 to 8 of the Netpbm page, one by one.
-fn header_at(file: &[u8], at: usize) -> Header
+#[tactic(auto, unfolding(crate::specs::Header::header_at))]
+fn header_at(file: &[u8], at: usize) -> Option<Header>
     ensures { result ≡ header_at file.now at }
 {
     // 2. "Whitespace"
-    let GapFound::Ends(width_start) = gap_at(file, at) else {
-        return Header::Broken;
-    };
+    let width_start = gap_at(file, at)?;
     // 3. "A width"
-    let Part::Value(width, width_end) = number_at(file, width_start) else {
-        return Header::Broken;
-    };
+    let width = number_at(file, width_start)?;
     // 4. "Whitespace"
-    let GapFound::Ends(height_start) = gap_at(file, width_end) else {
-        return Header::Broken;
-    };
+    let height_start = gap_at(file, width.end)?;
     // 5. "A height"
-    let Part::Value(height, height_end) = number_at(file, height_start) else {
-        return Header::Broken;
-    };
+    let height = number_at(file, height_start)?;
     // 6. "Whitespace"
-    let GapFound::Ends(maximum_start) = gap_at(file, height_end) else {
-        return Header::Broken;
-    };
+    let maximum_start = gap_at(file, height.end)?;
     // 7. "The maximum gray value"
-    let Part::Value(maximum, maximum_end) = number_at(file, maximum_start) else {
-        return Header::Broken;
-    };
+    let maximum = number_at(file, maximum_start)?;
     // 8. "A single whitespace character"
-    if !white_at(file, maximum_end) {
-        return Header::Broken;
+    if !white_at(file, maximum.end) {
+        return None;
     }
-    Header::Read {
-        width,
-        height,
-        maximum,
-        start: maximum_end + 1,
-    }
+    Some(Header {
+        width: width.value,
+        height: height.value,
+        maximum: maximum.value,
+        start: maximum.end + 1,
+    })
 }

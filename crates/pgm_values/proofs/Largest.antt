@@ -7,6 +7,7 @@ use native.Mathlib.Omega.{arith}
 use lib.Dec.{leb}
 use lib.ListN.{length, get_or, drop, drop_of_length-le}
 use borrow.Author.Tests.{le-leb, lt-leb, leb-true, leb-false}
+use Rattle.std.specs.Ordering.{ord_max, nat_cmp}
 use Rattle.causes.proofs.Lists.{from_here}
 use Rattle.pgm_values.specs.Values.{largest, all_at_most}
 
@@ -14,14 +15,19 @@ largest_step : (s : List ℕ) (i best : ℕ) → i < length s → max best (larg
 unfolding largest
 largest_step s i best h = rw (from_here s i h) (omega arith)
 
+-- the larger of two, as the code takes it
+larger : (a b : ℕ) → ord_max nat_cmp a b ≡ max a b
+larger a b = grind arith
+
 -- best is the largest of the first i samples
 abbrev pub LargestSoFar : List ℕ → ℕ → ℕ → Type 0
 LargestSoFar s i best = max best (largest (drop i s)) ≡ largest s
 
 module _ (s : List ℕ) (i best : ℕ) (so_far : LargestSoFar s i best) where
-  pub largest_more : (next : ℕ) → i < length s → next ≡ max best (get_or s i 0) → LargestSoFar s (i + 1) next
+  pub largest_more : (next : ℕ) → i < length s → next ≡ ord_max nat_cmp best (get_or s i 0) → LargestSoFar s (i + 1) next
   largest_more next h e =
       let step : max best (largest (drop i s)) ≡ max (max best (get_or s i 0)) (largest (drop (i + 1) s)) = largest_step s i best h in
+      let taken : next ≡ max best (get_or s i 0) = e ∙ larger best (get_or s i 0) in
       omega arith
 
   pub largest_all : length s ≤ i → best ≡ largest s

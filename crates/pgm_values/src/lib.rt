@@ -11,13 +11,11 @@ const LARGEST_MAXIMUM: u32 = 255;
 pub fn allowed(maximum: u32) -> bool
     ensures answer { result ≡ maximum_fits maximum }
 {
-    if maximum < 1 {
-        return false;
-    }
-    maximum <= LARGEST_MAXIMUM
+    (1..=LARGEST_MAXIMUM).contains(&maximum)
 }
 
-// The number of pixels of a picture whose sides fit.
+// The number of pixels of a picture whose sides fit, and so 32 bits hold it; `Grid::pixels` is of any sides. That they fit is asked, since a picture is
+// made of any numbers in the definitions.
 pub fn pixels(width: u32, height: u32) -> usize
     requires sides { sides_fit width height ≡ true }
     ensures number { result ≡ width * height }
@@ -29,14 +27,9 @@ pub fn pixels(width: u32, height: u32) -> usize
 fn most(samples: &[u8]) -> u8
     ensures { result ≡ largest samples.now }
 {
-    let mut best: u8 = 0;
-    let mut i = 0;
-    while i < samples.len() {
-        let b = samples[i];
-        if best < b {
-            best = b;
-        }
-        i += 1;
+    let mut best = 0;
+    for &sample in samples {
+        best = best.max(sample);
     }
     best
 }

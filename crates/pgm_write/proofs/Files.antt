@@ -30,7 +30,7 @@ extend f x l now next i e n h =
 -- what the buffer holds after each field, and the position after it
 pub record Stages (picture : List ℕ) (width height maximum : ℕ) (l l₁ l₂ l₃ l₄ : List ℕ) (a b c : ℕ) : Type 0 where
   pub after_width : a ≡ 2 + length (10 ∷ digits_of width)
-  pub with_width : l₁ ≡ sets (set (set l 0 80) 1 53) 2 (10 ∷ digits_of width)
+  pub with_width : l₁ ≡ sets (sets l 0 sign) 2 (10 ∷ digits_of width)
   pub after_height : b ≡ a + length (32 ∷ digits_of height)
   pub with_height : l₂ ≡ sets l₁ a (32 ∷ digits_of height)
   pub after_maximum : c ≡ b + length (10 ∷ digits_of maximum)

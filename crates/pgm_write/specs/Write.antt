@@ -1,12 +1,11 @@
 -- What writing a picture answers, and what the lent buffer then holds.
-use Rattle.std.specs.Prelude.{ℕ, zero, suc, ◌+◌, ◌*◌, ◌/◌, ◌%◌, cond, List, [], ◌∷◌, ◌++◌, length, drop, leb, ltb, eqb}
+use Rattle.std.specs.Prelude.{ℕ, zero, suc, ◌+◌, ◌*◌, ◌/◌, ◌%◌, cond, List, [], ◌∷◌, ◌++◌, length, drop, leb, ltb, eqb, Result, Ok, Err}
+use Rattle.causes.specs.declared.Cause.{Cause}
 use Rattle.causes.specs.declared.Cause.TheVariants.{Sides, PictureLength, Maximum, Sample, Buffer}
 use Rattle.causes.specs.Causes.{number_of, must}
 use Rattle.causes.specs.Sides.{sides_fit}
 use Rattle.pgm_values.specs.Values.{maximum_fits, all_at_most}
 use Rattle.pgm_header.specs.Header.{sign, most_digits}
-use Rattle.pgm_write.specs.declared.Written.{Written}
-use Rattle.pgm_write.specs.declared.Written.TheVariants.{Bytes, Refused}
 
 -- the digits of x, "with no leading zeros", for an x of at most k digits
 unfoldable pub decimal : ℕ → ℕ → List ℕ
@@ -23,24 +22,24 @@ pgm_file picture width height maximum =
     sign ++ 10 ∷ digits_of width ++ 32 ∷ digits_of height ++ 10 ∷ digits_of maximum ++ 10 ∷ picture
 
 -- the number of bytes, or the first cause that applies, in the order 1, 2, 10, 12, 7; room is the length of the lent buffer
-unfoldable pub write_answer : List ℕ → ℕ → ℕ → ℕ → ℕ → Written
+unfoldable pub write_answer : List ℕ → ℕ → ℕ → ℕ → ℕ → Result ℕ Cause
 write_answer picture width height maximum room =
-    must Refused (sides_fit width height) Sides
-    (must Refused (eqb (length picture) (width * height)) PictureLength
-    (must Refused (maximum_fits maximum) Maximum
-    (must Refused (all_at_most maximum picture) Sample
-    (must Refused (leb (length (pgm_file picture width height maximum)) room) Buffer
-    (Bytes (length (pgm_file picture width height maximum)))))))
+    must Err (sides_fit width height) Sides
+    (must Err (eqb (length picture) (width * height)) PictureLength
+    (must Err (maximum_fits maximum) Maximum
+    (must Err (all_at_most maximum picture) Sample
+    (must Err (leb (length (pgm_file picture width height maximum)) room) Buffer
+    (Ok (length (pgm_file picture width height maximum)))))))
 
 -- "this paper's number and values": the number of an answer, 0 where nothing is refused, then its value
-abbrev pub written_numbers : Written → List ℕ
-written_numbers (Bytes total) = 0 ∷ total ∷ []
-written_numbers (Refused cause) = number_of cause ∷ []
+abbrev pub written_numbers : Result ℕ Cause → List ℕ
+written_numbers (Ok total) = 0 ∷ total ∷ []
+written_numbers (Err cause) = number_of cause ∷ []
 
 -- the file at the start of the buffer, "bytes after them are untouched"; a refusal leaves the whole buffer as it was
-abbrev pub buffer_with : Written → List ℕ → List ℕ → List ℕ
-buffer_with (Bytes total) file buffer = file ++ drop total buffer
-buffer_with (Refused cause) file buffer = buffer
+abbrev pub buffer_with : Result ℕ Cause → List ℕ → List ℕ → List ℕ
+buffer_with (Ok total) file buffer = file ++ drop total buffer
+buffer_with (Err cause) file buffer = buffer
 
 unfoldable pub buffer_after : List ℕ → ℕ → ℕ → ℕ → List ℕ → List ℕ
 buffer_after picture width height maximum buffer =

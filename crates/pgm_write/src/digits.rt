@@ -1,4 +1,5 @@
-// Numbers in decimal, with no leading zeros.
+// Numbers in decimal, with no leading zeros. That they have seven digits at most is asked of each: a type for it would be made of plain numbers at
+// every call, by the same proof.
 ghost use Rattle.std.specs.Prelude.{◌≡◌, ◌+◌, ◌^◌, ◌≤◌, ◌<◌, length};
 ghost use Rattle.std.proofs.lemmas.List.Edits.{sets};
 ghost use Rattle.pgm_header.specs.Header.{most_digits};
@@ -20,10 +21,11 @@ pub fn put_number(buffer: &mut [u8], at: usize, x: u32) -> usize
     ensures buffer { buffer.new ≡ sets buffer.old at (digits_of x) }
 {
     if x < 10 {
-        buffer[at] = (48 + x) as u8;
-        return at + 1;
+        buffer[at] = b'0' + x as u8;
+        at + 1
+    } else {
+        let last = put_number(buffer, at, x / 10);
+        buffer[last] = b'0' + (x % 10) as u8;
+        last + 1
     }
-    let last = put_number(buffer, at, x / 10);
-    buffer[last] = (48 + x % 10) as u8;
-    last + 1
 }

@@ -9,16 +9,8 @@ ghost use Rattle.pgm_header.specs.Header.{most_digits};
 ghost use Rattle.pgm_write.specs.Write.{digits_of, pgm_file, write_answer, written_numbers, buffer_after};
 
 mod digits;
-mod samples;
 
 use causes::Cause;
-
-// What writing answers: the number of bytes written, or the cause.
-#[derive(Clone, Copy)]
-pub enum Written {
-    Bytes(usize),
-    Refused(Cause),
-}
 
 // Stores one byte and the digits of x from `at` on, and answers the position after them.
 fn put_field(buffer: &mut [u8], at: usize, lead: u8, x: u32) -> usize
@@ -31,20 +23,20 @@ fn put_field(buffer: &mut [u8], at: usize, lead: u8, x: u32) -> usize
     digits::put_number(buffer, at + 1, x)
 }
 
-// Stores the whole file.
+// Stores the whole file. The numbers are no struct, since each clause would name them longer: `pgm_file` takes them one by one.
 fn put_file(picture: &[u8], width: u32, height: u32, maximum: u32, buffer: &mut [u8])
     requires sides { sides_fit width height ≡ true }
     requires maximum { maximum_fits maximum ≡ true }
     requires room { length (pgm_file picture.now width height maximum) ≤ length buffer.old }
     ensures buffer { buffer.new ≡ sets buffer.old 0 (pgm_file picture.now width height maximum) }
 {
-    buffer[0] = pgm_header::MAGIC[0];
-    buffer[1] = pgm_header::MAGIC[1];
-    let a = put_field(buffer, 2, 10, width);
-    let b = put_field(buffer, a, 32, height);
-    let c = put_field(buffer, b, 10, maximum);
-    buffer[c] = 10;
-    samples::put_samples(buffer, c + 1, picture);
+    buffer[..pgm_header::MAGIC_LENGTH].copy_from_slice(&pgm_header::MAGIC);
+    let a = put_field(buffer, pgm_header::MAGIC_LENGTH, b'\n', width);
+    let b = put_field(buffer, a, b' ', height);
+    let c = put_field(buffer, b, b'\n', maximum);
+    buffer[c] = b'\n';
+    let start = c + 1;
+    buffer[start..start + picture.len()].copy_from_slice(picture);
 }
 
 // The number of bytes of a picture's file: six beside the digits and the samples, for the magic and what ends each field.
@@ -61,39 +53,48 @@ fn file_length(picture: &[u8], width: u32, height: u32, maximum: u32) -> usize
 }
 
 // The number of bytes of a picture's file that fits into `room` bytes, or the first cause that applies, in the order 1, 2, 10, 12, 7.
-fn writable(picture: &[u8], width: u32, height: u32, maximum: u32, room: usize) -> Written
+#[tactic(auto, unfolding(crate::specs::Write::write_answer))]
+fn writable(
+    picture: &[u8],
+    width: u32,
+    height: u32,
+    maximum: u32,
+    room: usize,
+) -> Result<usize, Cause>
     ensures { result ≡ write_answer picture.now width height maximum room }
 {
     if !causes::fit(width, height) {
-        return Written::Refused(Cause::Sides);
+        return Err(Cause::Sides);
     }
     if picture.len() != pgm_values::pixels(width, height) {
-        return Written::Refused(Cause::PictureLength);
+        return Err(Cause::PictureLength);
     }
     if !pgm_values::allowed(maximum) {
-        return Written::Refused(Cause::Maximum);
+        return Err(Cause::Maximum);
     }
     if !pgm_values::within(picture, maximum) {
-        return Written::Refused(Cause::Sample);
+        return Err(Cause::Sample);
     }
     let needed = file_length(picture, width, height, maximum);
     if room < needed {
-        return Written::Refused(Cause::Buffer);
+        return Err(Cause::Buffer);
     }
-    Written::Bytes(needed)
+    Ok(needed)
 }
 
 // Writes a picture's file into the buffer, and answers the number of its bytes; those after them stay as they were. A refusal writes
 // nothing.
-pub fn write(picture: &[u8], width: u32, height: u32, maximum: u32, buffer: &mut [u8]) -> Written
+pub fn write(
+    picture: &[u8],
+    width: u32,
+    height: u32,
+    maximum: u32,
+    buffer: &mut [u8],
+) -> Result<usize, Cause>
     ensures answer { written_numbers result ≡ written_numbers (write_answer picture.now width height maximum (length buffer.old)) }
     ensures buffer { buffer.new ≡ buffer_after picture.now width height maximum buffer.old }
 {
-    match writable(picture, width, height, maximum, buffer.len()) {
-        Written::Bytes(needed) => {
-            put_file(picture, width, height, maximum, buffer);
-            Written::Bytes(needed)
-        }
-        Written::Refused(cause) => Written::Refused(cause),
-    }
+    let needed = writable(picture, width, height, maximum, buffer.len())?;
+    put_file(picture, width, height, maximum, buffer);
+    Ok(needed)
 }

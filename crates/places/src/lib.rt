@@ -1,5 +1,6 @@
 // Where nodes fall along a list of thresholds: the search for a threshold, with a table of what it finds for small attributes, and the pass
-// that lowers the place words of the nodes to what it finds. Where several lists of thresholds apply, a pass for each leaves the least place.
+// that lowers the place words of the nodes to what it finds. That the thresholds do not fall is asked where they come in, and `Places` keeps it. Where
+// several lists of thresholds apply, a pass for each leaves the least place.
 #![tactic(auto)]
 
 ghost use Rattle.std.specs.Prelude.{true, ◌≡◌, min};
@@ -12,50 +13,41 @@ fn outlasted_by(steps: &[u32], a: u32) -> usize
     requires { not_falling 0 steps.now ≡ true }
     ensures { result ≡ places_before a steps.now }
 {
-    let mut low: usize = 0;
-    let mut high = steps.len();
-    while low < high {
-        let middle = low + (high - low) / 2;
-        if a < steps[middle] {
-            high = middle;
+    steps.partition_point(|t| *t <= a)
+}
+
+// Thresholds that do not fall, with how many of them each attribute below 256 outlasts.
+#[derive(Drop)]
+struct Places<'a> {
+    steps: &'a [u32],
+    small: [usize; 256],
+    ghost rise: { not_falling 0 steps.now ≡ true },
+    ghost found: { small ≡ small_places steps.now },
+}
+
+impl<'a> Places<'a> {
+    fn new(steps: &'a [u32]) -> Self
+        requires { not_falling 0 steps.now ≡ true }
+        ensures { result.steps.now ≡ steps.now }
+    {
+        // no `array::from_fn`: the library does not say that it calls this very closure
+        let mut small = [0; 256];
+        for a in 0..256 {
+            small[a] = outlasted_by(steps, a as u32);
+        }
+        Places { steps, small }
+    }
+
+    // How many of them an attribute outlasts, from the table if it is small.
+    fn of(&self, a: u32) -> usize
+        ensures { result ≡ places_before a self.now.steps.now }
+    {
+        if a < 256 {
+            self.small[a as usize]
         } else {
-            low = middle + 1;
+            outlasted_by(self.steps, a)
         }
     }
-    low
-}
-
-// The same for every attribute below 256.
-fn small_places(steps: &[u32]) -> [usize; 256]
-    requires { not_falling 0 steps.now ≡ true }
-    ensures { result ≡ small_places steps.now }
-{
-    let mut table: [usize; 256] = [0; 256];
-    let mut a: u32 = 0;
-    while a < 256 {
-        table[a as usize] = outlasted_by(steps, a);
-        a += 1;
-    }
-    table
-}
-
-// The same for any attribute, from the table if it is small.
-fn place(steps: &[u32], table: &[usize; 256], a: u32) -> usize
-    requires steps_value { not_falling 0 steps.now ≡ true }
-    requires table_value { table.now ≡ small_places steps.now }
-    ensures { result ≡ places_before a steps.now }
-{
-    if a < 256 {
-        return table[a as usize];
-    }
-    outlasted_by(steps, a)
-}
-
-// The smaller of two words. Both are at hand, so nothing branches.
-fn least(word: u32, place: u32) -> u32
-    ensures { result ≡ min word place }
-{
-    if place < word { place } else { word }
 }
 
 // Lowers the place word of each node to at most how many of the thresholds it outlasts by the attribute that it holds.
@@ -63,11 +55,9 @@ pub fn lower(n: usize, steps: &[u32], nodes: usize, ws: &mut [u32])
     requires { Lowerable n nodes steps.now ws.old }
     ensures { Lowered n nodes steps.now ws.old ws.new }
 {
-    let table = small_places(steps);
-    let mut k: usize = 0;
-    while k < nodes {
-        let found = place(steps, &table, ws[3 * n + 3 * k + 2]) as u32;
-        ws[2 * n + k] = least(ws[2 * n + k], found);
-        k += 1;
+    let places = Places::new(steps);
+    for k in 0..nodes {
+        let place = places.of(ws[3 * n + 3 * k + 2]) as u32;
+        ws[2 * n + k] = ws[2 * n + k].min(place);
     }
 }

@@ -22,7 +22,7 @@ use Rattle.calls.specs.Steps.{triples_in, list_tests}
 use Rattle.calls.specs.Judging.{may_follow, rising_triples, triples_good}
 use Rattle.calls.specs.declared.Kind.TheVariants.{Triples}
 use Rattle.calls.proofs.Steps.{Follows, follows, TripleList, triple_list, length_triples}
-use Rattle.placing.specs.Placing.{Column}
+use Rattle.placing.specs.Placing.{part_in, Column}
 
 -- the parts of a triple
 abbrev pub area_in : Triple → ℕ
@@ -65,14 +65,20 @@ module _ (words entries : List ℕ) (long : length entries ≡ 256) (few : lengt
   same_word : (j k : ℕ) → j ≡ k → get_or words j 0 ≡ get_or words k 0
   same_word j k e = ap (λ (x : ℕ). get_or words x 0) e
 
-  pub areas_are : Column 0 words entries → take (length words / 3) entries ≡ map area_in (triples_in words)
+  areas_are : Column 0 words entries → take (length words / 3) entries ≡ map area_in (triples_in words)
   areas_are = column_is 0 area_in refl (λ i b. ap area_in (triple_at words i (3 * i) refl b) ∙ same_word (3 * i) (3 * i + 0) (omega arith))
 
-  pub heights_are : Column 1 words entries → take (length words / 3) entries ≡ map height_in (triples_in words)
+  heights_are : Column 1 words entries → take (length words / 3) entries ≡ map height_in (triples_in words)
   heights_are = column_is 1 height_in refl (λ i b. ap height_in (triple_at words i (3 * i) refl b) ∙ same_word (suc (3 * i)) (3 * i + 1) (omega arith))
 
-  pub widths_are : Column 2 words entries → take (length words / 3) entries ≡ map width_in (triples_in words)
+  widths_are : Column 2 words entries → take (length words / 3) entries ≡ map width_in (triples_in words)
   widths_are = column_is 2 width_in refl (λ i b. ap width_in (triple_at words i (3 * i) refl b) ∙ same_word (suc (suc (3 * i))) (3 * i + 2) (omega arith))
+
+  pub part_is : (part : ℕ) → part < 3 → Column part words entries → take (length words / 3) entries ≡ map (part_in part) (triples_in words)
+  part_is zero b = areas_are
+  part_is (suc zero) b = heights_are
+  part_is (suc (suc zero)) b = widths_are
+  part_is (suc (suc (suc part))) b = absurd (omega arith)
 
 -- no part falls
 module _ (of : Triple → ℕ) (within : (low t : Triple) → Follows low t → of low ≤ of t) where
@@ -91,14 +97,10 @@ module _ (words : List ℕ) (good : triples_good words ≡ true) where
   list : TripleList words
   list = triple_list words good
 
-  pub areas_rise : not_falling 0 (map area_in (triples_in words)) ≡ true
-  areas_rise = part_rises area_in (λ low t f. f.no_fall.areas) zeros (triples_in words) list.rises
-
-  pub heights_rise : not_falling 0 (map height_in (triples_in words)) ≡ true
-  heights_rise = part_rises height_in (λ low t f. f.no_fall.heights) zeros (triples_in words) list.rises
-
-  pub widths_rise : not_falling 0 (map width_in (triples_in words)) ≡ true
-  widths_rise = part_rises width_in (λ low t f. f.no_fall.widths) zeros (triples_in words) list.rises
+  pub part_rise : (part : ℕ) → not_falling 0 (map (part_in part) (triples_in words)) ≡ true
+  part_rise zero = part_rises area_in (λ low t f. f.no_fall.areas) zeros (triples_in words) list.rises
+  part_rise (suc zero) = part_rises height_in (λ low t f. f.no_fall.heights) zeros (triples_in words) list.rises
+  part_rise (suc (suc part)) = part_rises width_in (λ low t f. f.no_fall.widths) zeros (triples_in words) list.rises
 
 -- a triple is outlasted if each of its parts is
 least_of_three : (a h w : Bool) (x y z r : ℕ) → r ≡ min (min y z) x

@@ -17,7 +17,6 @@ use Rattle.grid.specs.Attributes.{attribute}
 use Rattle.grid.specs.Greys.{grey}
 use Rattle.grid.specs.Triples.{meets}
 use Rattle.grid.specs.declared.Grid.{Grid}
-use Rattle.grid.specs.declared.Triple.{Triple}
 use Rattle.grid.proofs.Attributes.{adjacent_symmetric}
 use Rattle.tree.specs.Tree.{representative}
 use Rattle.tree.proofs.Representatives.{representative_in, representative_grey}
@@ -39,7 +38,7 @@ use Rattle.calls.proofs.Steps.{triple_list, length_triples}
 use Rattle.building.specs.Building.{Flooded, Noded, Measured}
 use Rattle.building.proofs.Assembly.{sized, rebuildable}
 use Rattle.placing.specs.Placing.{Started, Limited, LoweredBy, LimitedBy, Placed}
-use Rattle.placing.proofs.Columns.{area_in, height_in, width_in, areas_rise, heights_rise, widths_rise, outlasted_triples}
+use Rattle.placing.proofs.Columns.{area_in, height_in, width_in, outlasted_triples}
 
 -- the number of steps for each place
 pub started : (n count m : ℕ) (ws : List ℕ) → Sized n ws → m ≤ n → {part : List ℕ} → part ≡ replicate (length (lent (2 * n) (2 * n + m) ws)) count
@@ -154,41 +153,23 @@ module _ {grid : Grid} {a m : ℕ} {picture lent ws : List ℕ} (M : Measured gr
               ap (place_at k ws') (same_number L.outside q b) ∙ L.lowered j inside ∙ rw (before, holds) refl;
         }
 
--- a part of the triples is a list of thresholds
-part_few : (words : List ℕ) → triples_good words ≡ true → (of : Triple → ℕ) → length (map of (triples_in words)) ≤ most_steps
-part_few words good of = omega (arith, length-map (triples_in words) of, length_triples words, (triple_list words good).not_more)
-
-module _ {grid : Grid} {picture ws : List ℕ} {m : ℕ} (words : List ℕ) (good : triples_good words ≡ true) (F : Flooded grid picture ws m) where
-  abbrev LowerAsks : List ℕ → Type 0
-  LowerAsks column = Flooded grid picture ws m × ((length column ≤ most_steps) × (not_falling 0 column ≡ true))
-
-  pub heights_asked : (column : List ℕ) → column ≡ map height_in (triples_in words) → LowerAsks column
-  heights_asked column is = (F, (rw is (part_few words good height_in), rw is (heights_rise words good)))
-
-  pub widths_asked : (column : List ℕ) → column ≡ map width_in (triples_in words) → LowerAsks column
-  widths_asked column is = (F, (rw is (part_few words good width_in), rw is (widths_rise words good)))
-
-  pub areas_asked : (column : List ℕ) → column ≡ map area_in (triples_in words) → LowerAsks column
-  areas_asked column is = (F, (rw is (part_few words good area_in), rw is (areas_rise words good)))
-
 -- all three parts of the triples, the areas last
-pub limited_by : {grid : Grid} {m : ℕ} {picture words lent second third ws heights widths areas : List ℕ}
-    → heights ≡ map height_in (triples_in words) → widths ≡ map width_in (triples_in words) → areas ≡ map area_in (triples_in words)
-    → LoweredBy grid 2 picture heights m lent second → LoweredBy grid 3 picture widths m second third → LoweredBy grid 1 picture areas m third ws
+pub limited_by : {grid : Grid} {m : ℕ} {picture words lent second third ws : List ℕ}
+    → LoweredBy grid 2 picture (map height_in (triples_in words)) m lent second
+    → LoweredBy grid 3 picture (map width_in (triples_in words)) m second third
+    → LoweredBy grid 1 picture (map area_in (triples_in words)) m third ws
     → LimitedBy grid picture words m lent ws
-limited_by {grid} {picture = picture} {words = words} {heights = heights} {widths = widths} {areas = areas} tall_are broad_are large_are H W A =
-    let tall : Positions → ℕ = λ (s : Positions). places_before (attribute grid 2 s) heights in
-    let broad : Positions → ℕ = λ (s : Positions). places_before (attribute grid 3 s) widths in
-    let large : Positions → ℕ = λ (s : Positions). places_before (attribute grid 1 s) areas in
+limited_by {grid} {picture = picture} {words = words} H W A =
+    let tall : Positions → ℕ = λ (s : Positions). places_before (attribute grid 2 s) (map height_in (triples_in words)) in
+    let broad : Positions → ℕ = λ (s : Positions). places_before (attribute grid 3 s) (map width_in (triples_in words)) in
+    let large : Positions → ℕ = λ (s : Positions). places_before (attribute grid 1 s) (map area_in (triples_in words)) in
     record {
       noded = A.noded;
       limits =
           λ limit limited q b.
           let s : Positions = member (node (length picture) (adjacent grid) (grey picture) q) in
-          let all : outlasted s (list_tests grid Triples words) ≡ min (min (tall s) (broad s)) (large s) =
-          rw (tall_are, broad_are, large_are) (outlasted_triples grid words s) in
           let least : min (min (min (limit s) (tall s)) (broad s)) (large s) ≡ min (limit s) (outlasted s (list_tests grid Triples words)) =
-          omega (arith, all) in
+          omega (arith, outlasted_triples grid words s) in
           A.limits (λ (u : Positions). min (min (limit u) (tall u)) (broad u)) (W.limits (λ (u : Positions). min (limit u) (tall u)) (H.limits limit limited)) q b
           ∙ least;
     }

@@ -1,5 +1,5 @@
 -- What placing the nodes along a step list asks and leaves, on the words that it is lent.
-use Rattle.std.specs.Prelude.{ℕ, ◌+◌, ◌*◌, ◌/◌, ◌<◌, min, List, ◌≡◌, get_or, length}
+use Rattle.std.specs.Prelude.{ℕ, zero, suc, ◌+◌, ◌*◌, ◌/◌, ◌<◌, min, List, ◌≡◌, get_or, length}
 use Rattle.sets.specs.Sets.{Positions, member}
 use Rattle.opening.specs.Node.{node}
 use Rattle.grid.specs.Pixels.{pixels}
@@ -7,6 +7,7 @@ use Rattle.grid.specs.Neighbours.{adjacent}
 use Rattle.grid.specs.Attributes.{attribute}
 use Rattle.grid.specs.Greys.{grey}
 use Rattle.grid.specs.declared.Grid.{Grid}
+use Rattle.grid.specs.declared.Triple.{Triple}
 use Rattle.falls.specs.Falls.{outlasted, places_before}
 use Rattle.calls.specs.Steps.{list_tests, list_attribute}
 use Rattle.calls.specs.declared.Kind.{Kind}
@@ -14,6 +15,12 @@ use Rattle.calls.specs.declared.Kind.TheVariants.{Triples}
 use Rattle.levels.specs.Workspace.{number_at, lowest_of}
 use Rattle.places.specs.Places.{place_at, Outside}
 use Rattle.building.specs.Building.{Flooded, Noded}
+
+-- the parts of a triple, in the order of its words
+abbrev pub part_in : ℕ → Triple → ℕ
+part_in zero t = t.area
+part_in (suc zero) t = t.height
+part_in (suc (suc more)) t = t.width
 
 -- entry i has the given part of triple i
 abbrev pub Column : ℕ → List ℕ → List ℕ → Type 0

@@ -3,29 +3,27 @@
 // three, one a part, since a node meets a triple if it meets all three.
 #![tactic(auto)]
 
-ghost use Rattle.std.specs.Prelude.{true, ◌≡◌, ◌≤◌, ◌<◌, ◌*◌, length};
+ghost use Rattle.std.specs.Prelude.{true, ◌≡◌, ◌≤◌, ◌<◌, ◌+◌, ◌*◌, map, length};
 ghost use Rattle.causes.specs.Bounds.{most_steps};
 ghost use Rattle.levels.specs.Workspace.{Sized};
 ghost use Rattle.opening.specs.Residue.{not_falling};
+ghost use Rattle.calls.specs.Steps.{triples_in};
 ghost use Rattle.calls.specs.Judging.{triples_good, list_good};
 ghost use Rattle.building.specs.Building.{Flooded};
-ghost use Rattle.placing.specs.Placing.{Column, Started, LoweredBy, LimitedBy, Placed};
+ghost use Rattle.placing.specs.Placing.{part_in, Column, Started, LoweredBy, LimitedBy, Placed};
 
 use calls::Kind;
 use grid::Grid;
 
-// One part of each triple, in order: 0 the areas, 1 the heights, 2 the widths.
+// One part of each triple, in order: 0 the areas, 1 the heights, 2 the widths. An array, since nothing is allocated, and a list has at most 256.
 fn column(words: &[u32], part: usize) -> [u32; 256]
     requires words_len_bound { length words.now ≤ 3 * most_steps }
     requires part_bound { part < 3 }
     ensures { Column part words.now result }
 {
     let mut entries: [u32; 256] = [0; 256];
-    let count = words.len() / 3;
-    let mut i = 0;
-    while i < count {
+    for i in 0..words.len() / 3 {
         entries[i] = words[3 * i + part];
-        i += 1;
     }
     entries
 }
@@ -41,7 +39,8 @@ fn start_places(n: usize, count: usize, nodes: usize, ws: &mut [u32])
     levels::fill(&mut ws[2 * n..end], count as u32);
 }
 
-// Lowers the places of the nodes by thresholds of one attribute, which the nodes hold afterwards.
+// Lowers the places of the nodes by thresholds of one attribute, named by its number as `place_nodes` is told it, which the nodes hold afterwards. That
+// the nodes have numbers is asked here and below, since it is said of picture, grid, workspace and their number together.
 fn lower_by(picture: &[u8], grid: Grid, attribute: u32, steps: &[u32], nodes: usize, ws: &mut [u32])
     requires flooded { Flooded grid picture.now ws.old nodes }
     requires steps_len_bound { length steps.now ≤ most_steps }
@@ -52,19 +51,34 @@ fn lower_by(picture: &[u8], grid: Grid, attribute: u32, steps: &[u32], nodes: us
     places::lower(picture.len(), steps, nodes, ws);
 }
 
+// The same by one part of each triple, whose attribute is the part's number and one.
+fn lower_by_part(
+    picture: &[u8],
+    grid: Grid,
+    words: &[u32],
+    part: usize,
+    nodes: usize,
+    ws: &mut [u32],
+)
+    requires flooded { Flooded grid picture.now ws.old nodes }
+    requires words_value { triples_good words.now ≡ true }
+    requires part_bound { part < 3 }
+    ensures { LoweredBy grid (part + 1) picture.now (map (part_in part) (triples_in words.now)) nodes ws.old ws.new }
+{
+    let entries = column(words, part);
+    let steps = &entries[..words.len() / 3];
+    lower_by(picture, grid, part as u32 + 1, steps, nodes, ws);
+}
+
 // The same by each part of a list of triples, the areas last, so that the nodes hold them afterwards.
 fn lower_by_parts(picture: &[u8], grid: Grid, words: &[u32], nodes: usize, ws: &mut [u32])
     requires flooded { Flooded grid picture.now ws.old nodes }
     requires words_value { triples_good words.now ≡ true }
     ensures { LimitedBy grid picture.now words.now nodes ws.old ws.new }
 {
-    let count = words.len() / 3;
-    let heights = column(words, 1);
-    lower_by(picture, grid, 2, &heights[..count], nodes, ws);
-    let widths = column(words, 2);
-    lower_by(picture, grid, 3, &widths[..count], nodes, ws);
-    let areas = column(words, 0);
-    lower_by(picture, grid, 1, &areas[..count], nodes, ws);
+    lower_by_part(picture, grid, words, 1, nodes, ws);
+    lower_by_part(picture, grid, words, 2, nodes, ws);
+    lower_by_part(picture, grid, words, 0, nodes, ws);
 }
 
 // The places of the nodes, once they have numbers, for a step list of either kind. Answers the number of steps.
@@ -84,13 +98,13 @@ pub fn place_nodes(
         Kind::Thresholds(attribute) => {
             start_places(picture.len(), steps.len(), nodes, ws);
             lower_by(picture, grid, attribute, steps, nodes, ws);
-            return steps.len();
+            steps.len()
         }
         Kind::Triples => {
             let count = steps.len() / 3;
             start_places(picture.len(), count, nodes, ws);
             lower_by_parts(picture, grid, steps, nodes, ws);
-            return count;
+            count
         }
     }
 }

@@ -1,19 +1,19 @@
 -- The bits of a word: what setting or clearing one does to the others, the bits below a place, and the highest. Then the set of the open
 -- levels: a level opened, a level closed, and the search below a level. Assumes nothing.
 use Prim.Native.Nat.{ℕ, suc, ◌+◌, ◌*◌, ◌-◌, ◌/◌, ◌%◌, ◌^◌, ◌≤◌, ◌<◌}
-use mathlib.Core.List.{List}
 use mathlib.Core.Path.{◌≡◌, sym, ap, ap₂, ◌∙◌}
 use native.Mathlib.Nat.{max-eq_right, lt_of_lt_of_le, lt_of_le_of_lt, lt_of_not-le, not-le_of_lt, add-zero, one-mul, mul_comm, mul_assoc, suc-mul, pow-suc, mod-lt, mod-eq_of_lt, zero-div, div-eq_of_lt, div-eq_of_lt-le, mul-add-div_right, mul-add-mod_self_right}
 use native.Mathlib.Omega.{arith}
 use lib.Bits.{bit_or, or_block, or_step, or_zero_r}
-use lib.ListN.{get_or, length, set, length-set}
+use lib.ListN.{get_or, set, length-set}
 use lib.Pow.{pow_pos, pow_mono, pow-add, split, high, shr-shr, shl_exact}
 use lib.Seq.{get_or-set_same, get_or-set_other}
 use Rattle.levels.specs.Tables.{Changed}
 use Rattle.levels.proofs.Counts.{by_cases, equal_or_not, below_or_not}
 use Rattle.levels.proofs.Tables.{stored}
 use Rattle.queues.specs.Marks.{digit, mark, Marked, Highest}
-use Rattle.queues.specs.Queues.{NextOpen}
+use Rattle.queues.specs.declared.Opened.{Opened}
+use Rattle.queues.specs.Queues.{Whole, NextOpen}
 
 -- a number split at place j: the bits below j, at j and above
 digit_below : (a j r i : ℕ) → i < j → digit (a * 2 ^ j + r) i ≡ digit r i
@@ -120,6 +120,12 @@ over_digit : {w h : ℕ} → Highest w h → (i : ℕ) → h < i → digit w i �
 over_digit H i lt =
     ap (λ (x : ℕ). x % 2) (div-eq_of_lt (lt_of_lt_of_le H.beyond (pow_mono (omega arith))))
 
+-- the bit that `ilog2` names
+pub highest : {w h : ℕ} → 2 ^ h ≤ w → w < 2 * 2 ^ h → h < 64 → Highest w h
+highest {w} {h} lo hi place =
+    let e : 2 ^ (h + 1) ≡ 2 * 2 ^ h = pow-add 2 h 1 ∙ mul_comm (2 ^ h) 2 in
+    record { place = place; reached = lo; beyond = rw e hi }
+
 -- the place of a bit of a number is below its length
 top_within : {w h : ℕ} → Highest w h → (b : ℕ) → w < 2 ^ b → h < b
 top_within H b hi = lt_of_not-le (λ g. not-le_of_lt (lt_of_le_of_lt H.reached hi) (pow_mono g))
@@ -128,50 +134,41 @@ top_within H b hi = lt_of_not-le (λ g. not-le_of_lt (lt_of_le_of_lt H.reached h
 pub one_shifted : (j : ℕ) → j < 64 → (1 * 2 ^ j) % 2 ^ 64 ≡ 2 ^ j
 one_shifted j h = shl_exact {a = 1} 1 j 64 (omega arith) (omega arith) ∙ one-mul (2 ^ j)
 
--- the table with a new number of level l, and a new word where its bit is
-abbrev pub remarked : List ℕ → ℕ → ℕ → ℕ → List ℕ
-remarked opened l v x = set (set opened l v) (256 + l / 64) x
+-- the open nodes with a new number of level l, a new word where its bit is, and new counts
+abbrev pub remarked : Opened → ℕ → ℕ → ℕ → ℕ → ℕ → Opened
+remarked opened l v x taken closed =
+    record { numbers = set opened.numbers l v; levels = set opened.levels (l / 64) x; taken = taken; closed = closed }
 
-module _ (opened : List ℕ) (l v x : ℕ) (wide : length opened ≡ 262) (lo : l < 256) where
-  pub remarked_wide : length (remarked opened l v x) ≡ 262
-  remarked_wide = length-set (set opened l v) (256 + l / 64) x ∙ length-set opened l v ∙ wide
+module _ (opened : Opened) (l v x taken closed : ℕ) (wide : Whole opened) (lo : l < 256) where
+  abbrev after : Opened
+  after = remarked opened l v x taken closed
 
-  pub word_kept : get_or (set opened l v) (256 + l / 64) 0 ≡ get_or opened (256 + l / 64) 0
-  word_kept = get_or-set_other opened l (256 + l / 64) v 0 (λ e. omega arith)
-
-  pub number_stored : Changed 256 (λ k. get_or opened k 0) (λ k. get_or (remarked opened l v x) k 0) l v
-  number_stored =
-      let old = stored 256 opened l v (omega arith) in
+  pub remarked_wide : Whole after
+  remarked_wide =
       record {
-        here = get_or-set_other (set opened l v) (256 + l / 64) l x 0 (λ e. omega arith) ∙ old.here;
-        there = λ k h ne. get_or-set_other (set opened l v) (256 + l / 64) k x 0 (λ e. omega arith) ∙ old.there k h ne;
+        numbers = length-set opened.numbers l v ∙ wide.numbers;
+        levels = length-set opened.levels (l / 64) x ∙ wide.levels;
       }
 
-  pub past_kept : (j : ℕ) → 260 ≤ j → get_or (remarked opened l v x) j 0 ≡ get_or opened j 0
-  past_kept j h =
-      get_or-set_other (set opened l v) (256 + l / 64) j x 0 (λ e. omega arith)
-      ∙ get_or-set_other opened l j v 0 (λ e. omega arith)
+  pub number_stored : Changed 256 (λ k. get_or opened.numbers k 0) (λ k. get_or after.numbers k 0) l v
+  number_stored = stored 256 opened.numbers l v (omega (arith, wide.numbers))
 
-  word_here : get_or (remarked opened l v x) (256 + l / 64) 0 ≡ x
-  word_here = get_or-set_same (set opened l v) (256 + l / 64) x 0 (omega (arith, length-set opened l v))
+  word_here : get_or after.levels (l / 64) 0 ≡ x
+  word_here = get_or-set_same opened.levels (l / 64) x 0 (omega (arith, wide.levels))
 
-  module _ (others : (i : ℕ) → (i ≡ l % 64 → ⊥) → digit x i ≡ digit (get_or opened (256 + l / 64) 0) i) where
-    mark_there : (k : ℕ) → k < 256 → (k ≡ l → ⊥) → mark (remarked opened l v x) k ≡ mark opened k
+  module _ (others : (i : ℕ) → (i ≡ l % 64 → ⊥) → digit x i ≡ digit (get_or opened.levels (l / 64) 0) i) where
+    mark_there : (k : ℕ) → k < 256 → (k ≡ l → ⊥) → mark after k ≡ mark opened k
     mark_there k h ne =
         by_cases
         (equal_or_not (k / 64) (l / 64))
         (λ e.
-        ap (λ (i : ℕ). digit (get_or (remarked opened l v x) (256 + i) 0) (k % 64)) e
+        ap (λ (i : ℕ). digit (get_or after.levels i 0) (k % 64)) e
         ∙ ap (λ (w : ℕ). digit w (k % 64)) word_here
         ∙ others (k % 64) (λ z. ne (omega arith))
-        ∙ ap (λ (i : ℕ). digit (get_or opened (256 + i) 0) (k % 64)) (sym e))
-        (λ far.
-        ap
-        (λ (w : ℕ). digit w (k % 64))
-        (get_or-set_other (set opened l v) (256 + l / 64) (256 + k / 64) x 0 (λ e. far (omega arith))
-        ∙ get_or-set_other opened l (256 + k / 64) v 0 (λ e. omega arith)))
+        ∙ ap (λ (i : ℕ). digit (get_or opened.levels i 0) (k % 64)) (sym e))
+        (λ far. ap (λ (w : ℕ). digit w (k % 64)) (get_or-set_other opened.levels (l / 64) (k / 64) x 0 far))
 
-    pub mark_opened : {n : ℕ} → Marked n opened → (v ≡ n → ⊥) → digit x (l % 64) ≡ 1 → Marked n (remarked opened l v x)
+    pub mark_opened : {n : ℕ} → Marked n opened → (v ≡ n → ⊥) → digit x (l % 64) ≡ 1 → Marked n after
     mark_opened M not_n one =
         record {
           open_set = λ k h o.
@@ -186,7 +183,7 @@ module _ (opened : List ℕ) (l v x : ℕ) (wide : length opened ≡ 262) (lo : 
               (λ ne. mark_there k h ne ∙ M.closed_clear k h (sym (number_stored.there k h ne) ∙ c));
         }
 
-    pub mark_closed : {n : ℕ} → Marked n opened → v ≡ n → digit x (l % 64) ≡ 0 → Marked n (remarked opened l v x)
+    pub mark_closed : {n : ℕ} → Marked n opened → v ≡ n → digit x (l % 64) ≡ 0 → Marked n after
     mark_closed M is_n none =
         record {
           open_set = λ k h o.
@@ -201,37 +198,22 @@ module _ (opened : List ℕ) (l v x : ℕ) (wide : length opened ≡ 262) (lo : 
               (λ ne. mark_there k h ne ∙ M.closed_clear k h (sym (number_stored.there k h ne) ∙ c));
         }
 
--- a store after the set leaves it, and the open nodes
-module _ (opened : List ℕ) (i v : ℕ) (after : 260 ≤ i) where
-  pub number_kept : (k : ℕ) → k < 256 → get_or (set opened i v) k 0 ≡ get_or opened k 0
-  number_kept k h = get_or-set_other opened i k v 0 (λ e. omega arith)
-
-  mark_kept : (k : ℕ) → k < 256 → mark (set opened i v) k ≡ mark opened k
-  mark_kept k h = ap (λ (w : ℕ). digit w (k % 64)) (get_or-set_other opened i (256 + k / 64) v 0 (λ e. omega arith))
-
-  pub marks_kept : {n : ℕ} → Marked n opened → Marked n (set opened i v)
-  marks_kept M =
-      record {
-        open_set = λ k h o. mark_kept k h ∙ M.open_set k h (λ e. o (number_kept k h ∙ e));
-        closed_clear = λ k h c. mark_kept k h ∙ M.closed_clear k h (sym (number_kept k h) ∙ c);
-      }
-
 -- the search in the first b bits of word i, where no level from there on and below l is open
-module _ {n : ℕ} {opened : List ℕ} {l : ℕ} (M : Marked n opened) (lo : l < 256) (i b : ℕ) (within : 64 * i + b ≤ l) (short : b ≤ 64)
-    (passed : (k : ℕ) → 64 * i + b ≤ k → k < l → get_or opened k 0 ≡ n)
+module _ {n : ℕ} {opened : Opened} {l : ℕ} (M : Marked n opened) (lo : l < 256) (i b : ℕ) (within : 64 * i + b ≤ l) (short : b ≤ 64)
+    (passed : (k : ℕ) → 64 * i + b ≤ k → k < l → get_or opened.numbers k 0 ≡ n)
   where
-    closed_of : (k : ℕ) → k < 256 → mark opened k ≡ 0 → get_or opened k 0 ≡ n
+    closed_of : (k : ℕ) → k < 256 → mark opened k ≡ 0 → get_or opened.numbers k 0 ≡ n
     closed_of k h none =
-        by_cases (equal_or_not (get_or opened k 0) n) (λ e. e) (λ o. absurd (omega (arith, M.open_set k h o)))
+        by_cases (equal_or_not (get_or opened.numbers k 0) n) (λ e. e) (λ o. absurd (omega (arith, M.open_set k h o)))
 
-    mark_is : (k : ℕ) → 64 * i ≤ k → k < 64 * i + b → mark opened k ≡ digit (get_or opened (256 + i) 0 % 2 ^ b) (k - 64 * i)
+    mark_is : (k : ℕ) → 64 * i ≤ k → k < 64 * i + b → mark opened k ≡ digit (get_or opened.levels i 0 % 2 ^ b) (k - 64 * i)
     mark_is k ge lt =
         let word : k / 64 ≡ i = omega arith in
         let place : k % 64 ≡ k - 64 * i = omega arith in
-        ap₂ (λ (y z : ℕ). digit (get_or opened (256 + y) 0) z) word place
-        ∙ low_digit (get_or opened (256 + i) 0) b (k - 64 * i) (omega arith)
+        ap₂ (λ (y z : ℕ). digit (get_or opened.levels y 0) z) word place
+        ∙ low_digit (get_or opened.levels i 0) b (k - 64 * i) (omega arith)
 
-    none_within : get_or opened (256 + i) 0 % 2 ^ b ≡ 0 → (k : ℕ) → 64 * i ≤ k → k < l → get_or opened k 0 ≡ n
+    none_within : get_or opened.levels i 0 % 2 ^ b ≡ 0 → (k : ℕ) → 64 * i ≤ k → k < l → get_or opened.numbers k 0 ≡ n
     none_within none k ge lt =
         by_cases
         (below_or_not k (64 * i + b))
@@ -244,10 +226,10 @@ module _ {n : ℕ} {opened : List ℕ} {l : ℕ} (M : Marked n opened) (lo : l <
         ∙ ap (λ (w : ℕ). w % 2) (zero-div (2 ^ (k - 64 * i)))))
         (λ past. passed k past lt)
 
-    next_in : {h : ℕ} → Highest (get_or opened (256 + i) 0 % 2 ^ b) h → NextOpen n opened l (64 * i + h)
+    next_in : {h : ℕ} → Highest (get_or opened.levels i 0 % 2 ^ b) h → NextOpen n opened l (64 * i + h)
     next_in {h} H =
-        let w : ℕ = get_or opened (256 + i) 0 % 2 ^ b in
-        let inside : h < b = top_within H b (mod-lt (get_or opened (256 + i) 0) (pow_pos b)) in
+        let w : ℕ = get_or opened.levels i 0 % 2 ^ b in
+        let inside : h < b = top_within H b (mod-lt (get_or opened.levels i 0) (pow_pos b)) in
         record {
           lower = omega arith;
           open_here = λ e.
@@ -267,34 +249,34 @@ module _ {n : ℕ} {opened : List ℕ} {l : ℕ} (M : Marked n opened) (lo : l <
         }
 
 -- the bits below level l in its own word, then the words below, from the next on
-module _ {n : ℕ} {opened : List ℕ} {l : ℕ} (M : Marked n opened) (lo : l < 256) where
-  own_is : get_or opened (256 + l / 64) 0 % ((1 * 2 ^ (l % 64)) % 2 ^ 64) ≡ get_or opened (256 + l / 64) 0 % 2 ^ (l % 64)
-  own_is = ap (λ (p : ℕ). get_or opened (256 + l / 64) 0 % p) (one_shifted (l % 64) (omega arith))
+module _ {n : ℕ} {opened : Opened} {l : ℕ} (M : Marked n opened) (lo : l < 256) where
+  own_is : get_or opened.levels (l / 64) 0 % ((1 * 2 ^ (l % 64)) % 2 ^ 64) ≡ get_or opened.levels (l / 64) 0 % 2 ^ (l % 64)
+  own_is = ap (λ (p : ℕ). get_or opened.levels (l / 64) 0 % p) (one_shifted (l % 64) (omega arith))
 
   pub own_none :
-      get_or opened (256 + l / 64) 0 % ((1 * 2 ^ (l % 64)) % 2 ^ 64) ≡ 0 → (k : ℕ) → 64 * (l / 64) ≤ k → k < l → get_or opened k 0 ≡ n
+      get_or opened.levels (l / 64) 0 % ((1 * 2 ^ (l % 64)) % 2 ^ 64) ≡ 0 → (k : ℕ) → 64 * (l / 64) ≤ k → k < l → get_or opened.numbers k 0 ≡ n
   own_none none =
       none_within M lo (l / 64) (l % 64) (omega arith) (omega arith) (λ k a b. absurd (omega arith)) (sym own_is ∙ none)
 
   pub own_next :
-      {h : ℕ} → Highest (get_or opened (256 + l / 64) 0 % ((1 * 2 ^ (l % 64)) % 2 ^ 64)) h → NextOpen n opened l (64 * (l / 64) + h)
+      {h : ℕ} → Highest (get_or opened.levels (l / 64) 0 % ((1 * 2 ^ (l % 64)) % 2 ^ 64)) h → NextOpen n opened l (64 * (l / 64) + h)
   own_next H =
       next_in M lo (l / 64) (l % 64) (omega arith) (omega arith) (λ k a b. absurd (omega arith)) (rw own_is at H)
 
-  module _ {i : ℕ} (some : 0 < i) (passed : (64 * i ≤ l) × ((k : ℕ) → 64 * i ≤ k → k < l → get_or opened k 0 ≡ n)) where
-    before : (k : ℕ) → 64 * (i - 1) + 64 ≤ k → k < l → get_or opened k 0 ≡ n
-    before k a b = passed.1 k (omega arith) b
+  module _ {i : ℕ} (some : 0 < i) (below : 64 * i ≤ l) (passed : (k : ℕ) → 64 * i ≤ k → k < l → get_or opened.numbers k 0 ≡ n) where
+    before : (k : ℕ) → 64 * (i - 1) + 64 ≤ k → k < l → get_or opened.numbers k 0 ≡ n
+    before k a b = passed k (omega arith) b
 
     within : 64 * (i - 1) + 64 ≤ l
-    within = omega (arith, passed.0)
+    within = omega arith
 
-    pub word_none : get_or opened (256 + (i - 1)) 0 ≡ 0 → (k : ℕ) → 64 * (i - 1) ≤ k → k < l → get_or opened k 0 ≡ n
+    pub word_none : get_or opened.levels (i - 1) 0 ≡ 0 → (k : ℕ) → 64 * (i - 1) ≤ k → k < l → get_or opened.numbers k 0 ≡ n
     word_none none =
         none_within M lo (i - 1) 64 within (omega arith) before (ap (λ (w : ℕ). w % 2 ^ 64) none)
 
-    pub word_next : {h : ℕ} → Highest (get_or opened (256 + (i - 1)) 0) h → NextOpen n opened l (64 * (i - 1) + h)
+    pub word_next : {h : ℕ} → Highest (get_or opened.levels (i - 1) 0) h → NextOpen n opened l (64 * (i - 1) + h)
     word_next H =
-        let whole : get_or opened (256 + (i - 1)) 0 % 2 ^ 64 ≡ get_or opened (256 + (i - 1)) 0 =
+        let whole : get_or opened.levels (i - 1) 0 % 2 ^ 64 ≡ get_or opened.levels (i - 1) 0 =
         mod-eq_of_lt (lt_of_lt_of_le H.beyond (pow_mono {j = 64} (omega (arith, H.place))))
         in
         next_in M lo (i - 1) 64 within (omega arith) before (rw whole H)

@@ -3,7 +3,7 @@
 use Prim.Native.Nat.{ℕ, ◌+◌, ◌*◌, ◌-◌, ◌/◌, ◌%◌, ◌^◌, ◌≤◌, ◌<◌}
 use mathlib.Core.List.{List}
 use mathlib.Core.Logic.{inl, inr}
-use mathlib.Core.Path.{◌≡◌, refl, ap, ap₂, ◌∙◌}
+use mathlib.Core.Path.{◌≡◌, refl, ap, ◌∙◌}
 use native.Mathlib.Numerals.{add-one}
 use native.Mathlib.Omega.{arith}
 use lib.Bits.{bit_or}
@@ -15,10 +15,11 @@ use Rattle.levels.specs.Workspace.{Sized, number_at, closed_of, drop_of, order_o
 use Rattle.levels.proofs.Counts.{by_cases}
 use Rattle.levels.proofs.Tables.{stored}
 use Rattle.flooding.specs.Numbers.{Numbering}
+use Rattle.queues.specs.declared.Opened.{Opened}
 use Rattle.queues.specs.Marks.{digit, mark}
 use Rattle.queues.specs.Queues.{numbers_of, Nextable, Nameable, Naming, pushed_words, Appendable, Fitting, Placing}
-use Rattle.queues.specs.Queues.{Replaceable, Replacing, NoneOpen, NextOpen, NextBelow, Closable, Shut}
-use Rattle.queues.proofs.Marks.{set_here, set_there, bit_fits, clear_here, clear_there, one_shifted, remarked, remarked_wide, word_kept, number_stored, past_kept, number_kept, mark_opened, mark_closed, marks_kept}
+use Rattle.queues.specs.Queues.{Replaceable, Replacing, NextOpen, Closable, Shut}
+use Rattle.queues.proofs.Marks.{set_here, set_there, bit_fits, clear_here, clear_there, one_shifted, remarked, remarked_wide, number_stored, mark_opened, mark_closed}
 
 -- two stores, seen in a table whose entry x stands at place x of the words: an entry that both miss, and one that the first or the
 -- second hits
@@ -98,8 +99,8 @@ module _ (n : ℕ) (ws : List ℕ) (size : length ws ≡ words_a_pixel * n) (i v
       missed ws (n + i) v (3 * n + 3 * k + 1) p (λ x. 2 * n + x) t (λ e. omega arith) (λ e. omega arith)
 
 -- the word that holds the bit of level l, and that word with the bit set and with the bit cleared
-abbrev pub mark_word : List ℕ → ℕ → ℕ
-mark_word opened l = get_or opened (256 + l / 64) 0
+abbrev pub mark_word : Opened → ℕ → ℕ
+mark_word opened l = get_or opened.levels (l / 64) 0
 
 abbrev pub with_level : ℕ → ℕ → ℕ
 with_level w l = bit_or w ((1 * 2 ^ (l % 64)) % 2 ^ 64)
@@ -110,17 +111,17 @@ without_level w l = w - (1 * 2 ^ (l % 64)) % 2 ^ 64
 level_bit : (l : ℕ) → (1 * 2 ^ (l % 64)) % 2 ^ 64 ≡ 2 ^ (l % 64)
 level_bit l = one_shifted (l % 64) (omega arith)
 
--- the table with level l opened under the next number, and with level l closed
-abbrev pub opened_next : List ℕ → ℕ → List ℕ
+-- the open nodes with level l opened under the next number, and with level l closed
+abbrev pub opened_next : Opened → ℕ → Opened
 opened_next opened l =
-    let k = get_or opened 260 0 in set (remarked opened l k (with_level (mark_word (set opened l k) l) l)) 260 (k + 1)
+    remarked opened l opened.taken (with_level (mark_word opened l) l) (opened.taken + 1) opened.closed
 
-abbrev pub closed_next : ℕ → List ℕ → ℕ → List ℕ
-closed_next n opened l = set (remarked opened l n (without_level (mark_word (set opened l n) l) l)) 261 (get_or opened 261 0 + 1)
+abbrev pub closed_next : ℕ → Opened → ℕ → Opened
+closed_next n opened l = remarked opened l n (without_level (mark_word opened l) l) opened.taken (opened.closed + 1)
 
 -- a number of the level, where its node is open and where it is not
-module _ {n l : ℕ} {opened : List ℕ} (N : Nameable n l opened) where
-  pub named_open : (get_or opened l 0 ≡ n → ⊥) → Naming n l opened (get_or opened l 0) opened
+module _ {n l : ℕ} {opened : Opened} (N : Nameable n l opened) where
+  pub named_open : (get_or opened.numbers l 0 ≡ n → ⊥) → Naming n l opened (get_or opened.numbers l 0) opened
   named_open ne =
       record {
         which = inl (omega (arith, N.held), refl, refl);
@@ -130,38 +131,28 @@ module _ {n l : ℕ} {opened : List ℕ} (N : Nameable n l opened) where
         marks = N.marks;
       }
 
-  pub named_next : get_or opened l 0 ≡ n → Naming n l opened (get_or opened 260 0) (opened_next opened l)
+  pub named_next : get_or opened.numbers l 0 ≡ n → Naming n l opened opened.taken (opened_next opened l)
   named_next e =
-      let k = get_or opened 260 0 in
+      let k = opened.taken in
       let w = mark_word opened l in
-      let x = with_level (mark_word (set opened l k) l) l in
-      let is : x ≡ bit_or w (2 ^ (l % 64)) =
-      ap₂ bit_or (word_kept opened l k x N.wide N.level) (level_bit l)
-      in
-      let marked = remarked opened l k x in
-      let wide' = remarked_wide opened l k x N.wide N.level in
-      let old = number_stored opened l k x N.wide N.level in
+      let x = with_level w l in
+      let is : x ≡ bit_or w (2 ^ (l % 64)) = ap (bit_or w) (level_bit l) in
       record {
-        which = inr (e, refl, get_or-set_same marked 260 (k + 1) 0 (omega arith) ∙ add-one k);
-        open_at =
-            record {
-              here = number_kept marked 260 (k + 1) (omega arith) l N.level ∙ old.here;
-              there = λ j h ne. number_kept marked 260 (k + 1) (omega arith) j h ∙ old.there j h ne;
-            };
-        done = get_or-set_other marked 260 261 (k + 1) 0 (λ z. omega arith) ∙ past_kept opened l k x N.wide N.level 261 (omega arith);
-        wide = length-set marked 260 (k + 1) ∙ wide';
+        which = inr (e, refl, add-one k);
+        open_at = number_stored opened l k x (k + 1) opened.closed N.wide N.level;
+        done = refl;
+        wide = remarked_wide opened l k x (k + 1) opened.closed N.wide N.level;
         marks =
-            marks_kept marked 260 (k + 1) (omega arith)
-            (mark_opened opened l k x N.wide N.level
+            mark_opened opened l k x (k + 1) opened.closed N.wide N.level
             (λ i ne. ap (λ (y : ℕ). digit y i) is ∙ set_there w (l % 64) i ne)
             N.marks
             (λ z. omega (arith, N.left e))
-            (ap (λ (y : ℕ). digit y (l % 64)) is ∙ set_here w (l % 64)));
+            (ap (λ (y : ℕ). digit y (l % 64)) is ∙ set_here w (l % 64));
       }
 
 -- q at the place t of the runs, with the number k
 numbering_pushed :
-    {n q l k t : ℕ} {ws opened opened' : List ℕ} → Sized n ws → q < n → t < n → Naming n l opened k opened'
+    {n q l k t : ℕ} {ws : List ℕ} {opened opened' : Opened} → Sized n ws → q < n → t < n → Naming n l opened k opened'
     → let ws' = pushed_words n ws q k t in
     Numbering n l q (number_at ws' q) (numbers_of n ws opened) (numbers_of n ws' opened')
 numbering_pushed {n} {q} {k = k} {t} {ws} size in_q in_t N =
@@ -180,7 +171,7 @@ numbering_pushed {n} {q} {k = k} {t} {ws} size in_q in_t N =
 
 -- q at the end of the run of its level
 pub placing :
-    {n q l k : ℕ} {ws tails opened opened' : List ℕ} → Fitting n q l ws tails opened → Naming n l opened k opened'
+    {n q l k : ℕ} {ws tails : List ℕ} {opened opened' : Opened} → Fitting n q l ws tails opened → Naming n l opened k opened'
     → Placing n q l ws tails opened (pushed_words n ws q k (get_or tails l 0)) (set tails l (get_or tails l 0 + 1)) opened'
 placing {n} {q} {l} {k} {ws} {tails} F N =
     let t = get_or tails l 0 in
@@ -195,23 +186,23 @@ placing {n} {q} {l} {k} {ws} {tails} F N =
 
 -- q in place of another pixel of the run of its level
 pub replacing :
-    {n q l t : ℕ} {ws opened : List ℕ} → Replaceable n q l t ws opened
-    → Replacing n q l t ws opened (pushed_words n ws q (get_or opened l 0) t)
+    {n q l t : ℕ} {ws : List ℕ} {opened : Opened} → Replaceable n q l t ws opened
+    → Replacing n q l t ws opened (pushed_words n ws q (get_or opened.numbers l 0) t)
 replacing {n} {q} {l} {t} {ws} {opened} R =
     record {
       numbering =
           numbering_pushed R.sized R.within R.place (named_open R.nameable (λ e. omega (arith, R.open_here)));
-      ord = order_pushed n ws R.sized.words q (get_or opened l 0) t R.within R.place;
+      ord = order_pushed n ws R.sized.words q (get_or opened.numbers l 0) t R.within R.place;
     }
 
-number_small : {n l k : ℕ} {opened opened' : List ℕ} → Nameable n l opened → Naming n l opened k opened' → k < n
+pub number_small : {n l k : ℕ} {opened opened' : Opened} → Nameable n l opened → Naming n l opened k opened' → k < n
 number_small N M = by_cases M.which (λ o. omega arith) (λ f. omega (arith, N.left f.0))
 
-pub nextable : {n l : ℕ} {opened : List ℕ} → Nameable n l opened → get_or opened l 0 ≡ n → Nextable l opened
+pub nextable : {n l : ℕ} {opened : Opened} → Nameable n l opened → get_or opened.numbers l 0 ≡ n → Nextable l opened
 nextable N e = record { level = N.level; small = omega (arith, N.left e, N.small) }
 
 pub appendable :
-    {n q l k : ℕ} {ws tails opened opened' : List ℕ} → Fitting n q l ws tails opened → Naming n l opened k opened'
+    {n q l k : ℕ} {ws tails : List ℕ} {opened opened' : Opened} → Fitting n q l ws tails opened → Naming n l opened k opened'
     → Appendable n q l k ws tails
 appendable F N =
     record {
@@ -221,59 +212,46 @@ appendable F N =
     }
 
 -- the node of level l closed
-module _ {n l : ℕ} {ws opened : List ℕ} (C : Closable n ws opened l) where
+module _ {n l : ℕ} {ws : List ℕ} {opened : Opened} (C : Closable n ws opened l) where
   -- the bit of an open level is set, so it can be taken away
   level_marked : mark opened l ≡ 1
   level_marked = C.marks.open_set l C.level (λ e. omega (arith, C.open_here))
 
-  pub level_fits : (1 * 2 ^ (l % 64)) % 2 ^ 64 ≤ mark_word (set opened l n) l
-  level_fits =
-      rw
-      (level_bit l, word_kept opened l n 0 C.wide C.level)
-      (bit_fits (mark_word opened l) (l % 64) level_marked)
+  pub level_fits : (1 * 2 ^ (l % 64)) % 2 ^ 64 ≤ mark_word opened l
+  level_fits = rw (level_bit l) (bit_fits (mark_word opened l) (l % 64) level_marked)
 
   abbrev x : ℕ
-  x = without_level (mark_word (set opened l n) l) l
+  x = without_level (mark_word opened l) l
 
-  abbrev marked : List ℕ
-  marked = remarked opened l n x
-
-  closed_at : Changed 256 (λ k. get_or opened k 0) (λ k. get_or (closed_next n opened l) k 0) l n
-  closed_at =
-      let old = number_stored opened l n x C.wide C.level in
-      let kept = number_kept marked 261 (get_or opened 261 0 + 1) (omega arith) in
-      record { here = kept l C.level ∙ old.here; there = λ j h ne. kept j h ∙ old.there j h ne }
+  closed_at : Changed 256 (λ k. get_or opened.numbers k 0) (λ k. get_or (closed_next n opened l).numbers k 0) l n
+  closed_at = number_stored opened l n x opened.taken (opened.closed + 1) C.wide C.level
 
   -- the number of the next open level stays, and fits a word
-  next_kept : {m : ℕ} → NextOpen n opened l m → get_or (closed_next n opened l) m 0 ≡ get_or opened m 0
+  next_kept : {m : ℕ} → NextOpen n opened l m → get_or (closed_next n opened l).numbers m 0 ≡ get_or opened.numbers m 0
   next_kept {m} N =
       closed_at.there m (omega (arith, N.lower, C.level)) (λ e. omega (arith, N.lower))
 
-  pub next_small : {m : ℕ} → NextOpen n opened l m → get_or (closed_next n opened l) m 0 ≤ most_pixels
+  pub next_small : {m : ℕ} → NextOpen n opened l m → get_or (closed_next n opened l).numbers m 0 ≤ most_pixels
   next_small {m} N =
       omega (arith, next_kept N, C.within m (omega (arith, N.lower, C.level)), C.sized.small)
 
   pub shuts :
-      {v d : ℕ} (p : ℕ) → v ≡ get_or opened l 0 * 256 + d → d < 256
-      → Shut n ws opened (shut_words n ws (get_or opened 261 0) v (get_or opened l 0) p) (closed_next n opened l) l p d
+      {v d : ℕ} (p : ℕ) → v ≡ get_or opened.numbers l 0 * 256 + d → d < 256
+      → Shut n ws opened (shut_words n ws opened.closed v (get_or opened.numbers l 0) p) (closed_next n opened l) l p d
   shuts {v} p v_is byte =
-      let i = get_or opened 261 0 in
-      let k = get_or opened l 0 in
+      let i = opened.closed in
+      let k = get_or opened.numbers l 0 in
       let w = mark_word opened l in
-      let is : x ≡ w - 2 ^ (l % 64) =
-      ap₂ (λ (y z : ℕ). y - z) (word_kept opened l n x C.wide C.level) (level_bit l)
-      in
-      let wide' = remarked_wide opened l n x C.wide C.level in
+      let is : x ≡ w - 2 ^ (l % 64) = ap (λ (z : ℕ). w - z) (level_bit l) in
       let size = C.sized.words in
       record {
-        wide = length-set marked 261 (i + 1) ∙ wide';
+        wide = remarked_wide opened l n x opened.taken (i + 1) C.wide C.level;
         marks =
-            marks_kept marked 261 (i + 1) (omega arith)
-            (mark_closed opened l n x C.wide C.level
+            mark_closed opened l n x opened.taken (i + 1) C.wide C.level
             (λ j ne. ap (λ (y : ℕ). digit y j) is ∙ clear_there w (l % 64) j level_marked ne)
             C.marks
             refl
-            (ap (λ (y : ℕ). digit y (l % 64)) is ∙ clear_here w (l % 64) level_marked));
+            (ap (λ (y : ℕ). digit y (l % 64)) is ∙ clear_here w (l % 64) level_marked);
         shutting =
             record {
               up = up_shut n ws size i v k p C.left C.open_here;
@@ -281,28 +259,18 @@ module _ {n l : ℕ} {ws opened : List ℕ} (C : Closable n ws opened l) where
               drop = drop_shut n ws size i v k p C.left C.open_here v_is byte;
               open_at = closed_at;
               num = number_shut n ws size i v k p C.left C.open_here;
-              taken =
-                  get_or-set_other marked 261 260 (i + 1) 0 (λ z. omega arith)
-                  ∙ past_kept opened l n x C.wide C.level 260 (omega arith);
-              done = get_or-set_same marked 261 (i + 1) 0 (omega arith) ∙ add-one i;
+              taken = refl;
+              done = add-one i;
             };
         ord = order_shut n ws size i v k p C.left C.open_here;
       }
 
   pub shuts_below :
       {m : ℕ} → NextOpen n opened l m
-      → let k = get_or opened l 0 in
-      Shut n ws opened (shut_words n ws (get_or opened 261 0) (k * 256 + (l - m)) k (get_or (closed_next n opened l) m 0))
+      → let k = get_or opened.numbers l 0 in
+      Shut n ws opened (shut_words n ws opened.closed (k * 256 + (l - m)) k (get_or (closed_next n opened l).numbers m 0))
       (closed_next n opened l)
       l
-      (get_or opened m 0)
+      (get_or opened.numbers m 0)
       (l - m)
-  shuts_below {m} N = rw (next_kept N) (shuts (get_or opened m 0) refl (omega (arith, C.level)))
-
--- what the search below a level found
-module _ {n : ℕ} {opened : List ℕ} {l m : ℕ} (F : NextBelow n opened l m) where
-  pub found : (m ≡ 256 → ⊥) → NextOpen n opened l m
-  found ne = by_cases F (λ N. N) (λ w. absurd (ne w.0))
-
-  pub found_none : m ≡ 256 → l < 256 → NoneOpen n opened l
-  found_none e h = by_cases F (λ N. absurd (omega (arith, N.lower))) (λ w. w.1)
+  shuts_below {m} N = rw (next_kept N) (shuts (get_or opened.numbers m 0) refl (omega (arith, C.level)))

@@ -1,4 +1,5 @@
 -- The residue map of an accepted call with steps 1, 2, 3 and on holds the largest sums of equation 6.
+use Rattle.std.specs.Prelude.{Ok}
 use Prim.Native.Nat.{ℕ, ◌<◌, max}
 use mathlib.Core.List.{List}
 use mathlib.Core.Path.{◌≡◌, refl, sym, ap, subst, ◌∙◌}
@@ -14,14 +15,13 @@ use Rattle.tree.proofs.Together.{Together}
 use Rattle.falls.specs.Falls.{run_sum}
 use Rattle.calls.specs.Steps.{list_tests, list_attribute}
 use Rattle.calls.specs.Calls.{grey, MapCall, map_verdict, kept_by}
-use Rattle.calls.specs.declared.Verdict.TheVariants.{Accepted}
 use Rattle.calls.proofs.Accepted.{map_passed, bounded}
 use Rattle.runs.specs.Claim.{residue_at}
 use Rattle.runs.specs.Equation.{counting, Equation6, own_attribute, Counted, SumsAgree}
 use Rattle.runs.proofs.Pixels.{residue_is}
 use Rattle.runs.proofs.Equation.{parent_inside, equation_only, sums_by_equation, run_is}
 
-module _ (call : MapCall) (ok : map_verdict call ≡ Accepted) where
+module _ (call : MapCall) (ok : map_verdict call ≡ Ok tt) where
   abbrev n : ℕ
   n = pixels call.grid
 

@@ -1,4 +1,5 @@
 -- At every pixel the maps of an accepted call are by runs, and by nothing else.
+use Rattle.std.specs.Prelude.{Ok}
 use Prim.Native.Nat.{ℕ, suc, ◌+◌, ◌≤◌, ◌<◌}
 use mathlib.Core.List.{List, map}
 use mathlib.Core.Path.{◌≡◌, ◌∙◌}
@@ -16,12 +17,11 @@ use Rattle.grid.specs.Pixels.{pixels}
 use Rattle.grid.specs.Neighbours.{adjacent}
 use Rattle.falls.proofs.Raised.{length_falls}
 use Rattle.calls.specs.Calls.{grey, MapCall, map_verdict, kept_by, residue_map, index_map}
-use Rattle.calls.specs.declared.Verdict.TheVariants.{Accepted}
 use Rattle.calls.proofs.Accepted.{map_passed, maps_accepted, bounded}
 use Rattle.calls.proofs.Steps.{everything, list_narrow}
 use Rattle.runs.specs.Claim.{residues_of, greys_of, residue_at, index_at, AtPixel}
 
-module _ (call : MapCall) (ok : map_verdict call ≡ Accepted) where
+module _ (call : MapCall) (ok : map_verdict call ≡ Ok tt) where
   -- what the call writes
   abbrev tests : List Keeps
   tests = kept_by call

@@ -1,5 +1,7 @@
 -- What sizing a picture gives, and what a map call answers and writes: refused, it leaves all as it was; accepted, the record, and both maps from
 -- the pairs of the pixels. Assumes nothing.
+use Rattle.std.specs.Prelude.{Ok, Err}
+use Rattle.calls.specs.Judging.{Verdict}
 use Prim.Native.Nat.{ℕ, ◌*◌, ◌≤◌, ◌<◌}
 use mathlib.Core.List.{List}
 use mathlib.Core.Path.{◌≡◌, refl, sym, ap, ◌∙◌}
@@ -17,8 +19,6 @@ use Rattle.calls.specs.Steps.{list_tests, list_attribute}
 use Rattle.calls.specs.Judging.{verdict_numbers}
 use Rattle.calls.specs.Calls.{grey, residue_map, index_map, MapCall, map_verdict, kept_by, map_workspace, map_residue, map_index}
 use Rattle.calls.specs.declared.Kind.{Kind}
-use Rattle.calls.specs.declared.Verdict.{Verdict}
-use Rattle.calls.specs.declared.Verdict.TheVariants.{Accepted, Refused}
 use Rattle.calls.proofs.Accepted.{MapPassed, map_passed, bounded}
 use Rattle.calls.proofs.Steps.{everything, list_narrow, list_few}
 use Rattle.building.specs.Building.{Recordable, Recorded}
@@ -126,32 +126,23 @@ Called call answer workspace residue index =
     × ((residue ≡ map_residue call)
     × (index ≡ map_index call)))
 
--- a call by the verdict that was found on it
-module _ (call : MapCall) {verdict : Verdict} (judged : verdict ≡ map_verdict call) where
-  pub called_refused : {cause : Cause} → verdict ≡ Refused cause
-      → Called call (Refused cause) call.workspace call.residue call.index
+-- a call that is accepted
+module _ (call : MapCall) (accepted : map_verdict call ≡ Ok tt) where
+  pub passed : MapPassed call
+  passed = map_passed call accepted
+
+  pub size_asks : Sizeable call.grid call.picture call.kind call.steps call.gap call.workspace
+  size_asks = sizes passed passed.common.a_byte_each passed.common.words_each
+
+  -- the record is written, and then the maps
+  pub called_done : {ws left pairs residue index : List ℕ} {number : ℕ}
+      → NodePairs call.grid call.picture call.kind call.steps call.gap ws
+      → PixelPairs call.grid call.picture (kept_by call) call.gap pairs
+      → Recorded call.picture ws left number
+      → (residue ≡ table (length pairs) (λ (q : ℕ). total_in (get_or pairs q 0)))
+      × (index ≡ table (length pairs) (λ (q : ℕ). index_in (get_or pairs q 0)))
+      → Called call (Ok tt) left residue index
   unfolding map_workspace map_residue map_index
-  called_refused {cause} refused =
-      let is : map_verdict call ≡ Refused cause = sym judged ∙ refused in
-      rw is (refl, (refl, (refl, refl)))
-
-  module _ (accepted : verdict ≡ Accepted) where
-    pub passed : MapPassed call
-    passed = map_passed call (sym judged ∙ accepted)
-
-    pub size_asks : Sizeable call.grid call.picture call.kind call.steps call.gap call.workspace
-    size_asks = sizes passed passed.common.a_byte_each passed.common.words_each
-
-    -- the record is written, and then the maps
-    pub called_done : {ws left pairs residue index : List ℕ} {number : ℕ}
-        → NodePairs call.grid call.picture call.kind call.steps call.gap ws
-        → PixelPairs call.grid call.picture (kept_by call) call.gap pairs
-        → Recorded call.picture ws left number
-        → (residue ≡ table (length pairs) (λ (q : ℕ). total_in (get_or pairs q 0)))
-        × (index ≡ table (length pairs) (λ (q : ℕ). index_in (get_or pairs q 0)))
-        → Called call Accepted left residue index
-    unfolding map_workspace map_residue map_index
-    called_done words held recorded maps =
-        let is : map_verdict call ≡ Accepted = sym judged ∙ accepted in
-        let both = unpacked held maps in
-        rw is (refl, ((recorded.whole call.grid (list_attribute call.kind) words.number words.noded).left, (both.0, both.1)))
+  called_done words held recorded maps =
+      let both = unpacked held maps in
+      rw accepted (refl, ((recorded.whole call.grid (list_attribute call.kind) words.number words.noded).left, (both.0, both.1)))

@@ -1,5 +1,5 @@
 // Sizing a picture for a list of steps of either kind and a gap: the pairs of its nodes, and those of its pixels, of which the maps are made. The
-// calls are in the crates above.
+// calls are in the crates above. What is sized comes one by one, as the definitions take it.
 #![tactic(auto)]
 
 ghost use Rattle.std.specs.Prelude.{◌≡◌, length};

@@ -1,5 +1,6 @@
 -- The starred cases of the table, by computing the definitions. P is meant in its ring. Its components are computed once: they give its openings, and the
 -- openings its maps. Where a `refl` computes much, its value is written out, which saves half the time or more. Assumes nothing.
+use Rattle.std.specs.Prelude.{Ok}
 use Prim.Native.Nat.{ℕ, ◌+◌, ◌-◌, ◌<◌}
 use mathlib.Core.Bool.{Bool, true, false}
 use mathlib.Core.List.{List, [], ◌∷◌, ◌++◌, map}
@@ -19,7 +20,6 @@ use Rattle.tree.specs.Tree.{parent_word, attribute_word, parents, attributes, pu
 use Rattle.calls.specs.Judging.{attribute_good, neighbours_good, also}
 use Rattle.calls.specs.Steps.{step_test, list_tests}
 use Rattle.calls.specs.Calls.{grey, record_of, built, opened_picture, residue_map, index_map}
-use Rattle.calls.specs.declared.Built.TheVariants.{Nodes}
 use Rattle.small_pictures.specs.Table.{ringed_P, parents_P, attributes_P, nodes_P, building_P, Starred, opened_at, residues_at, indices_at}
 
 -- the neighbours in P
@@ -37,7 +37,7 @@ unfolding adjacent some_in count table_from table gather seed grow grown compone
     number_of_nodes
 nodes_are = refl {A = ℕ} {a = 4}
 
-built_is : (lent : List ℕ) → length lent ≡ 147 → built (building_P lent) ≡ Nodes 4
+built_is : (lent : List ℕ) → length lent ≡ 147 → built (building_P lent) ≡ Ok 4
 unfolding also attribute_good neighbours_good built
 built_is lent size = rw (size, nodes_are)
 

@@ -1,13 +1,13 @@
 -- The cases for proof of the scope's table of small pictures, which name 4 neighbours and gap 0, and those that requests E2 and E4 add, as one
 -- statement over the definitions that the calls' contracts state. By request E6 they "are then set in a ring, one pixel wide, of their least
 -- grey; their light maps and openings inside it stay, and the tree case" is "worked out again". The ring itself has no residue and keeps its grey.
+use Rattle.std.specs.Prelude.{Ok}
 use Rattle.std.specs.Prelude.{ℕ, ◌+◌, ◌≡◌, length, replicate}
 use mathlib.Core.List.{List, [], ◌∷◌, ◌++◌, foldr}
 use Rattle.grid.specs.Pixels.{grid_of}
 use Rattle.grid.specs.declared.Grid.{Grid}
 use Rattle.calls.specs.Steps.{step_test, list_tests}
 use Rattle.calls.specs.Calls.{record_of, BuildCall, built, opened_picture, residue_map, index_map}
-use Rattle.calls.specs.declared.Built.TheVariants.{Nodes}
 use Rattle.calls.specs.declared.Step.TheVariants.{Threshold}
 use Rattle.calls.specs.declared.Kind.TheVariants.{Thresholds}
 
@@ -63,7 +63,7 @@ pub record Starred : Type 0 where
   -- "P, area: parents 0 2 0 2 0, attributes 5 1 3 1 0, 4 nodes.", worked out again: positions move, and the root has the frame's attribute.
   -- The record's other four parts are zero, and a building call that is lent 147 words answers the number.
   pub tree_record : record_of (grid_of 7 3 4) 1 ringed_P ≡ parents_P ++ attributes_P ++ nodes_P ++ replicate 84 0
-  pub tree_nodes : (lent : List ℕ) → length lent ≡ 147 → built (building_P lent) ≡ Nodes 4
+  pub tree_nodes : (lent : List ℕ) → length lent ≡ 147 → built (building_P lent) ≡ Ok 4
   -- "P, area, steps 1 2 3 4: residue 0 10 10 30 0, index 0 4 4 2 0."
   pub steps_1_2_3_4_residue : residues_at (grid_of 7 3 4) 1 (1 ∷ 2 ∷ 3 ∷ 4 ∷ []) 0 ringed_P ≡ ringed 0 5 ((0 ∷ 10 ∷ 10 ∷ 30 ∷ 0 ∷ []) ∷ [])
   pub steps_1_2_3_4_index : indices_at (grid_of 7 3 4) 1 (1 ∷ 2 ∷ 3 ∷ 4 ∷ []) 0 ringed_P ≡ ringed 0 5 ((0 ∷ 4 ∷ 4 ∷ 2 ∷ 0 ∷ []) ∷ [])

@@ -1,5 +1,5 @@
 -- The numbers of the step lines, one line after the other: judged as a step list, and stored.
-use Prim.Native.Nat.{ℕ, suc, ◌+◌, ◌-◌, ◌≤◌, ◌<◌}
+use Prim.Native.Nat.{ℕ, suc, ◌+◌, ◌≤◌, ◌<◌}
 use mathlib.Core.Path.{◌≡◌, refl, sym, ◌∙◌}
 use mathlib.Core.Bool.{Bool, true, false, not, ◌&&◌}
 use mathlib.Core.List.{List, [], ◌∷◌}
@@ -7,16 +7,15 @@ use native.Mathlib.Numerals.{add-one}
 use native.Mathlib.Nat.{add-zero, zero-add}
 use native.Mathlib.Omega.{arith}
 use lib.Dec.{eqb, leb}
-use lib.ListN.{length, take, drop, set, drop_of_length-le}
+use lib.ListN.{length, set}
 use lib.Seq.{sets}
 use borrow.Author.Tests.{le-leb, lt-leb, lt-ltb, le-ltb, eqb-true, eqb-false}
 use Rattle.sets.proofs.Tests.{and_false}
-use Rattle.causes.proofs.Laws.{both_true}
-use Rattle.steps.specs.Lines.{lines, step_line, step_lines, threshold, thresholds, StepLines}
+use Rattle.steps.specs.Lines.{threshold, thresholds, StepLines}
 use Rattle.causes.specs.Bounds.{most_steps}
 use Rattle.calls.specs.Judging.{threshold_good, all_good, steps_good}
 use Rattle.opening.specs.Residue.{rising}
-use Rattle.steps.proofs.Splitting.{NextLine}
+use Rattle.steps.proofs.Shaping.{step_later}
 
 -- whether thresholds after `count` others, the last of which is low, make a step list
 unfoldable pub rest_good : ℕ → ℕ → List ℕ → Bool
@@ -58,96 +57,67 @@ module _ (low count t : ℕ) (ts : List ℕ) where
         let e : count + suc (length ts) ≡ count + 1 + length ts = omega arith in
         rw (lt-ltb low t above, h, e)
 
--- one line of the step lines
-module _ {file : List ℕ} {at end : ℕ} (next : NextLine file at end) where
-  pub threshold_next : thresholds (lines (drop at file)) ≡ threshold (take (end - at) (drop at file)) ∷ thresholds (lines (drop (end + 1) file))
-  unfolding thresholds
-  threshold_next = rw next.splits
-
-  module _ (steps : StepLines file at) where
-    here_and_after : (step_line (take (end - at) (drop at file)) ≡ true) × (step_lines (lines (drop (end + 1) file)) ≡ true)
-    unfolding step_lines
-    here_and_after =
-        both_true
-        (step_line (take (end - at) (drop at file)))
-        (step_lines (lines (drop (end + 1) file)))
-        (rw next.splits at steps.all_steps)
-
-    pub step_here : step_line (take (end - at) (drop at file)) ≡ true
-    step_here = here_and_after.0
-
-    steps_after_line : StepLines file (end + 1)
-    steps_after_line = record { ended = steps.ended; all_steps = here_and_after.1 }
-
-no_thresholds : (file : List ℕ) (at : ℕ) → length file ≤ at → thresholds (lines (drop at file)) ≡ []
-unfolding lines thresholds
-no_thresholds file at h = rw (drop_of_length-le file h)
-
--- the steps before a position are good and rise, the last of them to low: what is left to judge are those after it
-pub record JudgedSoFar (file : List ℕ) (from at low count : ℕ) : Type 0 where
-  pub steps : StepLines file at
+-- the steps before those that are left are good and rise, the last of them to low: what is left to judge are the others
+pub record JudgedSoFar (all left : List (List ℕ)) (low count : ℕ) : Type 0 where
+  pub steps : StepLines left
   pub few : count ≤ most_steps
-  pub rest : rest_good low count (thresholds (lines (drop at file))) ≡ steps_good (thresholds (lines (drop from file)))
+  pub rest : rest_good low count (thresholds left) ≡ steps_good (thresholds all)
 
-pub judged_none : (file : List ℕ) (from : ℕ) → StepLines file from → JudgedSoFar file from from 0 0
-judged_none file from steps =
-    record { steps = steps; few = omega arith; rest = rest_good_all (thresholds (lines (drop from file))) }
+pub judged_none : (all : List (List ℕ)) → StepLines all → JudgedSoFar all all 0 0
+judged_none all steps = record { steps = steps; few = omega arith; rest = rest_good_all (thresholds all) }
 
-module _ {file : List ℕ} {from at low count : ℕ} (so_far : JudgedSoFar file from at low count) where
-  pub judged_end : length file ≤ at → not (eqb count 0) ≡ steps_good (thresholds (lines (drop from file)))
-  judged_end h = rest_good_none low count so_far.few ∙ (rw (no_thresholds file at h) at so_far.rest)
+pub judged_end : {all left : List (List ℕ)} {low count : ℕ} → JudgedSoFar all left low count → left ≡ [] → not (eqb count 0) ≡ steps_good (thresholds all)
+unfolding thresholds
+judged_end {low = low} {count = count} so_far e = rest_good_none low count so_far.few ∙ (rw e at so_far.rest)
 
-  module _ {end : ℕ} (next : NextLine file at end) (t : ℕ) (is : t ≡ threshold (take (end - at) (drop at file))) where
-    rest_here : rest_good low count (t ∷ thresholds (lines (drop (end + 1) file))) ≡ steps_good (thresholds (lines (drop from file)))
-    rest_here = rw is (rw (threshold_next next) at so_far.rest)
+module _ {all : List (List ℕ)} {line : List ℕ} {left : List (List ℕ)} {low count : ℕ} (so_far : JudgedSoFar all (line ∷ left) low count) (t : ℕ) (is : t ≡ threshold line) where
+  rest_here : rest_good low count (t ∷ thresholds left) ≡ steps_good (thresholds all)
+  unfolding thresholds
+  rest_here = rw is so_far.rest
 
-    pub judged_full : count ≡ most_steps → false ≡ steps_good (thresholds (lines (drop from file)))
-    judged_full e = rest_good_full low count t (thresholds (lines (drop (end + 1) file))) e ∙ rest_here
+  pub judged_full : count ≡ most_steps → false ≡ steps_good (thresholds all)
+  judged_full e = rest_good_full low count t (thresholds left) e ∙ rest_here
 
-    pub judged_falls : t ≤ low → false ≡ steps_good (thresholds (lines (drop from file)))
-    judged_falls h = rest_good_falls low count t (thresholds (lines (drop (end + 1) file))) h ∙ rest_here
+  pub judged_falls : t ≤ low → false ≡ steps_good (thresholds all)
+  judged_falls h = rest_good_falls low count t (thresholds left) h ∙ rest_here
 
-    module _ (above : low < t) where
-      pub judged_outside : threshold_good t ≡ false → false ≡ steps_good (thresholds (lines (drop from file)))
-      judged_outside h = rest_good_outside low count t (thresholds (lines (drop (end + 1) file))) above h ∙ rest_here
+  module _ (above : low < t) where
+    pub judged_outside : threshold_good t ≡ false → false ≡ steps_good (thresholds all)
+    judged_outside h = rest_good_outside low count t (thresholds left) above h ∙ rest_here
 
-      pub judged_more : (count ≡ most_steps → ⊥) → threshold_good t ≡ true → JudgedSoFar file from (end + 1) t (count + 1)
-      judged_more n h =
-          record {
-            steps = steps_after_line next so_far.steps;
-            few = omega (arith, so_far.few);
-            rest = sym (rest_good_more low count t (thresholds (lines (drop (end + 1) file))) above h) ∙ rest_here;
-          }
-
--- the thresholds before a position are stored, `count` of them: storing the others ends with all stored
-pub record StoredSoFar (file : List ℕ) (from at count : ℕ) (lent now : List ℕ) : Type 0 where
-  pub steps : StepLines file at
-  pub counted : count + length (thresholds (lines (drop at file))) ≡ length (thresholds (lines (drop from file)))
-  pub stored : sets now count (thresholds (lines (drop at file))) ≡ sets lent 0 (thresholds (lines (drop from file)))
-
-pub stored_none : (file : List ℕ) (from : ℕ) (lent : List ℕ) → StepLines file from → StoredSoFar file from from 0 lent lent
-stored_none file from lent steps =
-    record { steps = steps; counted = zero-add (length (thresholds (lines (drop from file)))); stored = refl }
-
-module _ {file : List ℕ} {from at count : ℕ} {lent now : List ℕ} (so_far : StoredSoFar file from at count lent now) where
-  module _ (h : length file ≤ at) where
-    pub stored_total : count ≡ length (thresholds (lines (drop from file)))
-    stored_total = sym (add-zero count) ∙ (rw (no_thresholds file at h) at so_far.counted)
-
-    pub stored_all : now ≡ sets lent 0 (thresholds (lines (drop from file)))
-    stored_all = rw (no_thresholds file at h) at so_far.stored
-
-  module _ {end : ℕ} (next : NextLine file at end) where
-    counted_here : count + suc (length (thresholds (lines (drop (end + 1) file)))) ≡ length (thresholds (lines (drop from file)))
-    counted_here = rw (threshold_next next) at so_far.counted
-
-    pub place_left : count < length (thresholds (lines (drop from file)))
-    place_left = omega (arith, counted_here)
-
-    pub stored_more : (t : ℕ) → t ≡ threshold (take (end - at) (drop at file)) → StoredSoFar file from (end + 1) (count + 1) lent (set now count t)
-    stored_more t is =
+    pub judged_more : (count ≡ most_steps → ⊥) → threshold_good t ≡ true → JudgedSoFar all left t (count + 1)
+    judged_more n h =
         record {
-          steps = steps_after_line next so_far.steps;
-          counted = omega (arith, counted_here);
-          stored = rw (is, add-one count) (rw (threshold_next next) at so_far.stored);
+          steps = step_later so_far.steps;
+          few = omega (arith, so_far.few);
+          rest = sym (rest_good_more low count t (thresholds left) above h) ∙ rest_here;
         }
+
+-- the thresholds before those that are left are stored, `count` of them: storing the others ends with all stored
+pub record StoredSoFar (all left : List (List ℕ)) (count : ℕ) (lent now : List ℕ) : Type 0 where
+  pub steps : StepLines left
+  pub counted : count + length (thresholds left) ≡ length (thresholds all)
+  pub stored : sets now count (thresholds left) ≡ sets lent 0 (thresholds all)
+
+module _ {all left : List (List ℕ)} {count : ℕ} {lent now : List ℕ} (so_far : StoredSoFar all left count lent now) (e : left ≡ []) where
+  pub stored_total : count ≡ length (thresholds all)
+  unfolding thresholds
+  stored_total = sym (add-zero count) ∙ (rw e at so_far.counted)
+
+  pub stored_all : now ≡ sets lent 0 (thresholds all)
+  unfolding thresholds
+  stored_all = rw e at so_far.stored
+
+module _ {all : List (List ℕ)} {line : List ℕ} {left : List (List ℕ)} {count : ℕ} {lent now : List ℕ} (so_far : StoredSoFar all (line ∷ left) count lent now) where
+  pub place_left : count < length (thresholds all)
+  unfolding thresholds
+  place_left = omega (arith, so_far.counted)
+
+  pub stored_more : (t : ℕ) → t ≡ threshold line → StoredSoFar all left (count + 1) lent (set now count t)
+  unfolding thresholds
+  stored_more t is =
+      record {
+        steps = step_later so_far.steps;
+        counted = omega (arith, so_far.counted);
+        stored = rw (is, add-one count) so_far.stored;
+      }

@@ -1,69 +1,53 @@
 -- The steps of a scan over the bytes of a field, as laws of the definitions: one byte more of a class, of a fixed head, of a number.
-use Prim.Native.Nat.{ℕ, ◌+◌, ◌*◌, ◌-◌, ◌^◌, ◌≤◌, ◌<◌}
-use mathlib.Core.Path.{◌≡◌, refl}
-use mathlib.Core.Bool.{true, false, ◌&&◌, false≢true}
+use Prim.Native.Nat.{ℕ, suc, ◌+◌, ◌*◌, ◌-◌, ◌^◌, ◌≤◌, ◌<◌}
+use mathlib.Core.Path.{◌≡◌, refl, sym, ap}
+use mathlib.Core.Bool.{Bool, true, false, ◌&&◌, false≢true}
 use mathlib.Core.List.{List, [], ◌∷◌}
 use native.Mathlib.Numerals.{add-one}
 use native.Mathlib.Nat.{pow-suc, pow-le-pow_right}
 use native.Mathlib.Omega.{arith}
 use lib.Dec.{eqb, leb}
-use lib.ListN.{length, get_or, drop, drop_of_length-le}
-use borrow.Author.Tests.{le-leb, lt-leb, leb-true, eq-eqb, ne_eqb}
+use lib.ListN.{length, get_or, take, drop, drop_of_length-le}
+use borrow.Author.Tests.{leb-true, eq-eqb, ne_eqb, eqb-true, eqb-false}
+use Rattle.std.specs.List.{list_all}
+use Rattle.std.specs.Cmp.Lexicographic.{pointwise}
+use Rattle.sets.proofs.Tests.{and_false}
 use Rattle.causes.proofs.Laws.{both_true}
 use Rattle.causes.proofs.Lists.{from_here}
-use Rattle.steps.specs.Fields.{all_between, field, value_after, starts_with}
+use Rattle.steps.specs.Fields.{all_between, field, value_after, starts_with, same}
 
--- the bytes before i are of low to high: what is left to judge is the rest
-pub record BetweenSoFar (low high : ℕ) (s : List ℕ) (i : ℕ) : Type 0 where
-  pub rest : all_between low high (drop i s) ≡ all_between low high s
+-- the bytes of a field, as `all` tests them
+pub all_between_all : (low high : ℕ) (s : List ℕ) → all_between low high s ≡ list_all (λ b. leb low b && leb b high) s
+unfolding all_between
+all_between_all low high [] = refl
+all_between_all low high (b ∷ s) = ap (λ rest. (leb low b && leb b high) && rest) (all_between_all low high s)
 
-module _ {low high : ℕ} {s : List ℕ} {i : ℕ} (so_far : BetweenSoFar low high s i) where
-  pub between_end : length s ≤ i → true ≡ all_between low high s
-  unfolding all_between
-  between_end h = rw (drop_of_length-le s h) at so_far.rest
+-- the head that `strip_prefix` looks for
+pub starts_stripped : (head s : List ℕ) → pointwise eqb (take (length head) s) head ≡ starts_with head s
+unfolding starts_with
+starts_stripped [] s = refl
+starts_stripped (a ∷ head) [] = refl
+starts_stripped (a ∷ head) (b ∷ s) = ap (λ rest. eqb b a && rest) (starts_stripped head s)
 
-  module _ (h : i < length s) where
-    pub too_low : get_or s i 0 < low → false ≡ all_between low high s
-    unfolding all_between
-    too_low below = rw (from_here s i h, lt-leb low (get_or s i 0) below) at so_far.rest
+eqb_suc : (m n : ℕ) → eqb (suc m) (suc n) ≡ eqb m n
+eqb_suc m n = go (eqb m n) refl
+  where
+    go : (t : Bool) → eqb m n ≡ t → eqb (suc m) (suc n) ≡ t
+    go true e = eq-eqb (suc m) (suc n) (ap (λ (k : ℕ). suc k) (eqb-true m n e))
+    go false e = ne_eqb (suc m) (suc n) (λ (f : suc m ≡ suc n). eqb-false m n e (omega arith))
 
-    module _ (lo : low ≤ get_or s i 0) where
-      pub too_high : high < get_or s i 0 → false ≡ all_between low high s
-      unfolding all_between
-      too_high above = rw (from_here s i h, le-leb low (get_or s i 0) lo, lt-leb (get_or s i 0) high above) at so_far.rest
+and_swap : (a b c : Bool) → (a && (b && c)) ≡ (b && (a && c))
+and_swap true b c = refl
+and_swap false true c = refl
+and_swap false false c = refl
 
-      pub between_more : get_or s i 0 ≤ high → BetweenSoFar low high s (i + 1)
-      unfolding all_between
-      between_more hi =
-          record {
-            rest = rw (from_here s i h, le-leb low (get_or s i 0) lo, le-leb (get_or s i 0) high hi) at so_far.rest;
-          }
-
--- the first i bytes are those of the head
-pub record StartsSoFar (head s : List ℕ) (i : ℕ) : Type 0 where
-  pub rest : starts_with (drop i head) (drop i s) ≡ starts_with head s
-
-module _ {head s : List ℕ} {i : ℕ} (so_far : StartsSoFar head s i) where
-  pub starts_end : length head ≤ i → true ≡ starts_with head s
-  unfolding starts_with
-  starts_end h = rw (drop_of_length-le head h) at so_far.rest
-
-  module _ (h : i < length head) where
-    pub starts_short : length s ≤ i → false ≡ starts_with head s
-    unfolding starts_with
-    starts_short short = rw (from_here head i h, drop_of_length-le s short) at so_far.rest
-
-    module _ (k : i < length s) where
-      pub starts_other : (get_or s i 0 ≡ get_or head i 0 → ⊥) → false ≡ starts_with head s
-      unfolding starts_with
-      starts_other n = rw (from_here head i h, from_here s i k, ne_eqb (get_or s i 0) (get_or head i 0) n) at so_far.rest
-
-      pub starts_more : get_or s i 0 ≡ get_or head i 0 → StartsSoFar head s (i + 1)
-      unfolding starts_with
-      starts_more e =
-          record {
-            rest = rw (from_here head i h, from_here s i k, eq-eqb (get_or s i 0) (get_or head i 0) e) at so_far.rest;
-          }
+-- a word, as `==` tests it
+pub same_word : (word s : List ℕ) → pointwise eqb s word ≡ same word s
+unfolding starts_with
+same_word [] [] = refl
+same_word [] (b ∷ s) = rw (ne_eqb (suc (length s)) 0 (λ (e : suc (length s) ≡ 0). omega arith))
+same_word (a ∷ word) [] = sym (and_false (eqb 0 (suc (length word))))
+same_word (a ∷ word) (b ∷ s) = rw (same_word word s, eqb_suc (length s) (length word)) (and_swap (eqb b a) (eqb (length s) (length word)) (starts_with word s))
 
 -- what starts with a head is at least as long
 pub starts_long : (head s : List ℕ) → starts_with head s ≡ true → length head ≤ length s

@@ -50,10 +50,9 @@ shaped (first ∷ rest) = attribute_line first && step_lines rest
 unfoldable pub well_formed : List ℕ → Bool
 well_formed file = ends_line file && shaped (lines file)
 
--- from a position on, every line of the file is a whole step line
-pub record StepLines (file : List ℕ) (from : ℕ) : Type 0 where
-  pub ended : ends_line file ≡ true
-  pub all_steps : step_lines (lines (drop from file)) ≡ true
+-- every line of those is a whole step line
+pub record StepLines (rest : List (List ℕ)) : Type 0 where
+  pub all_steps : step_lines rest ≡ true
 
 -- the number on a step line
 unfoldable pub threshold : List ℕ → ℕ
@@ -72,3 +71,10 @@ word_on (first ∷ rest) = drop (length attribute_head) first
 abbrev pub listed : List (List ℕ) → List ℕ
 listed [] = []
 listed (first ∷ rest) = thresholds rest
+
+-- the parts of a steps file that is not malformed: the word on its first line, and the text of the step lines after it
+pub record Parts (file word rest : List ℕ) : Type 0 where
+  pub shape : well_formed file ≡ true
+  pub word_is : word ≡ word_on (lines file)
+  pub steps : StepLines (lines rest)
+  pub listed_are : thresholds (lines rest) ≡ listed (lines file)

@@ -1,47 +1,27 @@
 // What stands on a line after its first word and tab: the attribute's name, or a step's number.
-ghost use Rattle.std.specs.Prelude.{◌≡◌, true};
-ghost use Rattle.steps.specs.Fields.{all_between, field, is_number, value_after, starts_with, same, attribute_of};
+ghost use Rattle.std.specs.Prelude.{◌≡◌, true, cond, ◌&&◌, leb, eqb, Some, None};
+ghost use Rattle.std.specs.List.{list_all};
+ghost use Rattle.steps.specs.Fields.{field, is_number, value_after, attribute_of};
 
 fn all_between(bytes: &[u8], low: u8, high: u8) -> bool
-    ensures { result ≡ all_between low high bytes.now }
+    ensures { result ≡ list_all (λ b. leb low b && leb b high) bytes.now }
 {
-    let mut i = 0;
-    while i < bytes.len() {
-        let b = bytes[i];
-        if b < low {
-            return false;
-        }
-        if high < b {
-            return false;
-        }
-        i += 1;
-    }
-    true
+    bytes.iter().all(|b| (low..=high).contains(b))
 }
 
 // Whether there are 1 to `longest` bytes, each of low to high.
+#[tactic(auto, using(crate::proofs::Scanning::all_between_all), unfolding(crate::specs::Fields::field))]
 pub fn field(bytes: &[u8], longest: usize, low: u8, high: u8) -> bool
     ensures { result ≡ field longest low high bytes.now }
 {
-    if bytes.len() < 1 {
-        return false;
-    }
-    if longest < bytes.len() {
-        return false;
-    }
-    all_between(bytes, low, high)
+    (1..=longest).contains(&bytes.len()) && all_between(bytes, low, high)
 }
 
+#[tactic(auto, using(crate::proofs::Shaping::field_some))]
 pub fn is_number(bytes: &[u8]) -> bool
     ensures { result ≡ is_number bytes.now }
 {
-    if !field(bytes, 7, 48, 57) {
-        return false;
-    }
-    if bytes.len() == 1 {
-        return true;
-    }
-    bytes[0] != 48
+    field(bytes, 7, b'0', b'9') && (bytes.len() == 1 || bytes[0] != b'0')
 }
 
 // The number that up to 7 digits spell.
@@ -49,52 +29,25 @@ pub fn value(digits: &[u8]) -> u32
     requires { field 7 48 57 digits.now ≡ true }
     ensures { result ≡ value_after 0 digits.now }
 {
-    let mut v: u32 = 0;
-    let mut i = 0;
-    while i < digits.len() {
-        v = v * 10 + ((digits[i] - 48) as u32);
-        i += 1;
+    let mut v = 0;
+    for digit in digits {
+        v = v * 10 + u32::from(digit - b'0');
     }
     v
 }
 
-pub fn starts_with(bytes: &[u8], head: &[u8]) -> bool
-    ensures { result ≡ starts_with head.now bytes.now }
+// The number of the attribute that a word names.
+#[tactic(auto, using(crate::proofs::Scanning::same_word), unfolding(crate::specs::Fields::attribute_of))]
+pub fn attribute_of(word: &[u8]) -> Option<u32>
+    ensures { result ≡ cond (eqb (attribute_of word.now) 0) None (Some (attribute_of word.now)) }
 {
-    let mut i = 0;
-    while i < head.len() {
-        if bytes.len() <= i {
-            return false;
-        }
-        if bytes[i] != head[i] {
-            return false;
-        }
-        i += 1;
+    if word == b"area".as_slice() {
+        Some(1)
+    } else if word == b"height".as_slice() {
+        Some(2)
+    } else if word == b"width".as_slice() {
+        Some(3)
+    } else {
+        None
     }
-    true
-}
-
-fn same(bytes: &[u8], word: &[u8]) -> bool
-    ensures { result ≡ same word.now bytes.now }
-{
-    if bytes.len() != word.len() {
-        return false;
-    }
-    starts_with(bytes, word)
-}
-
-// The number of the attribute that a word names, 0 where it names none.
-pub fn attribute_of(word: &[u8]) -> u32
-    ensures { result ≡ attribute_of word.now }
-{
-    if same(word, b"area") {
-        return 1;
-    }
-    if same(word, b"height") {
-        return 2;
-    }
-    if same(word, b"width") {
-        return 3;
-    }
-    0
 }

@@ -2,7 +2,7 @@
 // before its numbers. Parsing answers on every input, and a refusal writes nothing.
 #![tactic(auto)]
 
-ghost use Rattle.std.specs.Prelude.{◌≡◌, ◌≤◌, length, drop};
+ghost use Rattle.std.specs.Prelude.{◌≡◌, ◌≤◌, length};
 ghost use Rattle.std.proofs.lemmas.List.Edits.{sets};
 ghost use Rattle.steps.specs.Lines.{lines, thresholds, StepLines};
 ghost use Rattle.causes.specs.Bounds.{most_steps};
@@ -13,74 +13,58 @@ mod fields;
 mod lines;
 
 use causes::Cause;
+use lines::Lines;
 
-// What parsing finds: the attribute's number and how many steps there are, or the cause.
-#[derive(Clone, Copy)]
-pub enum Parsed {
-    Steps { attribute: u32, count: usize },
-    Refused(Cause),
+// What a file gives: the attribute's number, by which a call names it, and how many steps there are.
+#[derive(Clone, Copy, Debug, PartialEq, Eq)]
+pub struct Parsed {
+    pub attribute: u32,
+    pub count: usize,
 }
 
-// Whether the numbers on the step lines from `from` on are a step list.
-fn good_steps(file: &[u8], from: usize) -> bool
-    requires { StepLines file.now from }
-    ensures { result ≡ steps_good (thresholds (lines (drop from file.now))) }
+// Whether the numbers on step lines are a step list. `calls::steps_good` judges a slice of them, but none may be stored before all are judged.
+#[tactic(auto, using(crate::proofs::Judging::judged_none, crate::proofs::Judging::judged_end, crate::proofs::Shaping::step_here))]
+fn good_steps(rest: Lines) -> bool
+    requires { StepLines (lines rest.text.now) }
+    ensures { result ≡ steps_good (thresholds (lines rest.entry.text.now)) }
 {
-    let mut at = from;
-    let mut low: u32 = 0;
-    let mut count: usize = 0;
-    while at < file.len() {
-        let end = lines::line_end(file, at);
-        let t = lines::threshold(&file[at..end]);
-        if count == causes::MOST_STEPS {
-            return false;
-        }
-        if t <= low {
-            return false;
-        }
-        if !calls::threshold_good(t) {
+    let mut low = 0;
+    let mut count = 0;
+    for line in rest {
+        let t = lines::threshold(line);
+        if count == causes::MOST_STEPS || t <= low || !calls::threshold_good(t) {
             return false;
         }
         low = t;
         count += 1;
-        at = end + 1;
     }
     count != 0
 }
 
-// Stores the numbers on the step lines from `from` on, and answers how many there are.
-fn put_steps(file: &[u8], from: usize, steps: &mut [u32; 256]) -> usize
-    requires { StepLines file.now from × (length (thresholds (lines (drop from file.now))) ≤ most_steps) }
-    ensures count { result ≡ length (thresholds (lines (drop from file.now))) }
-    ensures steps { steps.new ≡ sets steps.old 0 (thresholds (lines (drop from file.now))) }
+// Stores the numbers on step lines, and answers how many there are.
+#[tactic(auto, using(crate::proofs::Judging::stored_total, crate::proofs::Judging::stored_all, crate::proofs::Judging::place_left, crate::proofs::Shaping::step_here))]
+fn put_steps(rest: Lines, steps: &mut [u32; 256]) -> usize
+    requires { StepLines (lines rest.text.now) × (length (thresholds (lines rest.text.now)) ≤ most_steps) }
+    ensures count { result ≡ length (thresholds (lines rest.entry.text.now)) }
+    ensures steps { steps.new ≡ sets steps.old 0 (thresholds (lines rest.entry.text.now)) }
 {
-    let mut at = from;
-    let mut count: usize = 0;
-    while at < file.len() {
-        let end = lines::line_end(file, at);
-        steps[count] = lines::threshold(&file[at..end]);
+    let mut count = 0;
+    for line in rest {
+        steps[count] = lines::threshold(line);
         count += 1;
-        at = end + 1;
     }
     count
 }
 
 // Parses a file: its attribute and its steps, of which the thresholds are stored, or the first cause that applies, in the order 13, 3, 4.
-pub fn parse(file: &[u8], steps: &mut [u32; 256]) -> Parsed
+// An array is lent for the steps, and they are counted, since no memory is allocated.
+pub fn parse(file: &[u8], steps: &mut [u32; 256]) -> Result<Parsed, Cause>
     ensures answer { parsed_numbers result ≡ parsed_numbers (parse_answer file.now) }
     ensures steps { steps.new ≡ steps_after file.now steps.old }
 {
-    if !lines::well_formed(file) {
-        return Parsed::Refused(Cause::StepsFile);
-    }
-    let end = lines::line_end(file, 0);
-    let attribute = lines::attribute(&file[..end]);
-    if attribute == 0 {
-        return Parsed::Refused(Cause::Attribute);
-    }
-    if !good_steps(file, end + 1) {
-        return Parsed::Refused(Cause::Steps);
-    }
-    let count = put_steps(file, end + 1, steps);
-    Parsed::Steps { attribute, count }
+    let (word, rest) = lines::parts(file).ok_or(Cause::StepsFile)?;
+    let attribute = fields::attribute_of(word).ok_or(Cause::Attribute)?;
+    calls::check(good_steps(rest), Cause::Steps)?;
+    let count = put_steps(rest, steps);
+    Ok(Parsed { attribute, count })
 }

@@ -13,8 +13,7 @@ use Rattle.pgm_write.specs.Write.{decimal}
 use Rattle.calls.specs.Judging.{attribute_good, threshold_good, all_good}
 use Rattle.steps.specs.Fields.{is_word, is_number, starts_with, same, area, height, width, attribute_of}
 use Rattle.steps.specs.Lines.{ends_line, longer, lines, attribute_head, step_head, attribute_line, step_line, step_lines, shaped, well_formed, threshold, thresholds, word_on, listed}
-use Rattle.steps.specs.Answer.{attribute_in, steps_in, parse_answer}
-use Rattle.steps.specs.declared.Parsed.TheVariants.{Steps}
+use Rattle.steps.specs.Answer.{attribute_in, steps_in, parsed_steps, parse_answer}
 use Rattle.steps.proofs.Laws.{accepted_file}
 use Rattle.steps_laws.specs.Spelled.{name_of, spelled_steps, spelled_file, Spells, Gives}
 use Rattle.steps_laws.proofs.Digits.{number_written}
@@ -109,7 +108,7 @@ lines_spelled (first ∷ rest) e some good =
     (steps_spelled rest p.1 good)
 
 -- an accepted file spells its attribute and its steps
-accepted_spells : (file : List ℕ) (attribute count : ℕ) → parse_answer file ≡ Steps attribute count → Spells file attribute (steps_in file)
+accepted_spells : (file : List ℕ) (attribute count : ℕ) → parse_answer file ≡ parsed_steps attribute count → Spells file attribute (steps_in file)
 unfolding attribute_in steps_in well_formed
 accepted_spells file attribute count e =
     let a = accepted_file file attribute count e in

@@ -4,8 +4,7 @@ use Rattle.pgm_write.specs.Write.{decimal}
 use Rattle.calls.specs.Judging.{attribute_good, steps_good}
 use Rattle.steps.specs.Fields.{area, height, width}
 use Rattle.steps.specs.Lines.{attribute_head, step_head}
-use Rattle.steps.specs.Answer.{steps_in, parse_answer}
-use Rattle.steps.specs.declared.Parsed.TheVariants.{Steps}
+use Rattle.steps.specs.Answer.{steps_in, parsed_steps, parse_answer}
 
 -- "1 area (pixels), 2 height .., 3 width"
 unfoldable pub name_of : ℕ → List ℕ
@@ -28,5 +27,5 @@ pub record Spells (file : List ℕ) (attribute : ℕ) (steps : List ℕ) : Type 
 
 -- a file is accepted, and gives this attribute and these steps
 pub record Gives (file : List ℕ) (attribute : ℕ) (steps : List ℕ) : Type 0 where
-  pub answer : parse_answer file ≡ Steps attribute (length steps)
+  pub answer : parse_answer file ≡ parsed_steps attribute (length steps)
   pub listed : steps_in file ≡ steps

@@ -1,5 +1,6 @@
 // The C interface. Each function hands lent memory on to the call that it is named for, and answers 64 bits: the value where the call is
-// accepted, 0 for "done", else the cause's number times 2^32. include/teldruf.h declares them.
+// accepted, 0 for "done", else the cause's number times 2^32. include/teldruf.h declares them, and their
+// parameters and numbers are its.
 #![tactic(auto)]
 
 ghost use Rattle.std.specs.Prelude.{◌≡◌, length};
@@ -25,19 +26,14 @@ pub extern "C" fn teldruf_read_pgm(file: &[u8], number: u64, head: &mut [u64; 4]
     ensures head { head.new ≡ head_with (read_answer file.now number) head.old }
 {
     match pgm::read(file, number as usize) {
-        pgm::Found::Picture {
-            width,
-            height,
-            maximum,
-            start,
-        } => {
-            head[0] = width as u64;
-            head[1] = height as u64;
-            head[2] = maximum as u64;
-            head[3] = start as u64;
+        Ok(picture) => {
+            head[0] = u64::from(picture.width);
+            head[1] = u64::from(picture.height);
+            head[2] = u64::from(picture.maximum);
+            head[3] = picture.start as u64;
             0
         }
-        pgm::Found::Refused(cause) => refused(cause),
+        Err(cause) => refused(cause),
     }
 }
 
@@ -54,8 +50,8 @@ pub extern "C" fn teldruf_write_pgm(
     ensures buffer { buffer.new ≡ buffer_after picture.now width height maximum buffer.old }
 {
     match pgm::write(picture, width, height, maximum, buffer) {
-        pgm::Written::Bytes(total) => total as u64,
-        pgm::Written::Refused(cause) => refused(cause),
+        Ok(total) => total as u64,
+        Err(cause) => refused(cause),
     }
 }
 
@@ -72,19 +68,12 @@ pub extern "C" fn teldruf_build(
     ensures answer { result ≡ code_of (built_numbers (built (build_by picture.now width height attribute neighbours workspace.old))) }
     ensures workspace { workspace.new ≡ build_workspace (build_by picture.now width height attribute neighbours workspace.old) }
 {
-    match max_tree::build(
-        picture,
-        Grid {
-            width,
-            height,
-            neighbours,
-        },
-        attribute,
-        workspace,
-    ) {
-        calls::Built::Nodes(total) => total as u64,
-        calls::Built::Refused(cause) => refused(cause),
-    }
+    let grid = Grid {
+        width,
+        height,
+        neighbours,
+    };
+    codes::value(max_tree::build(picture, grid, attribute, workspace))
 }
 
 // Opens a picture at a threshold into the output.
@@ -103,20 +92,18 @@ pub extern "C" fn teldruf_open(
     ensures workspace { workspace.new ≡ open_workspace (open_by picture.now width height attribute neighbours threshold workspace.old output.old) }
     ensures output { output.new ≡ open_output (open_by picture.now width height attribute neighbours threshold workspace.old output.old) }
 {
-    match openings::open(
+    let grid = Grid {
+        width,
+        height,
+        neighbours,
+    };
+    codes::done(openings::open(
         picture,
-        Grid {
-            width,
-            height,
-            neighbours,
-        },
+        grid,
         calls::Step::Threshold(attribute, threshold),
         workspace,
         output,
-    ) {
-        calls::Verdict::Accepted => 0,
-        calls::Verdict::Refused(cause) => refused(cause),
-    }
+    ))
 }
 
 // Opens a picture by a triple into the output: what stays has the area, so many rows and so many columns or more.
@@ -136,13 +123,14 @@ pub extern "C" fn teldruf_open_triple(
     ensures workspace { workspace.new ≡ open_workspace (open_triple_by picture.now width height neighbours area rows columns workspace.old output.old) }
     ensures output { output.new ≡ open_output (open_triple_by picture.now width height neighbours area rows columns workspace.old output.old) }
 {
-    match openings::open(
+    let grid = Grid {
+        width,
+        height,
+        neighbours,
+    };
+    codes::done(openings::open(
         picture,
-        Grid {
-            width,
-            height,
-            neighbours,
-        },
+        grid,
         calls::Step::Three(Triple {
             area,
             height: rows,
@@ -150,10 +138,7 @@ pub extern "C" fn teldruf_open_triple(
         }),
         workspace,
         output,
-    ) {
-        calls::Verdict::Accepted => 0,
-        calls::Verdict::Refused(cause) => refused(cause),
-    }
+    ))
 }
 
 // Writes the residue map and the index map of a picture for a list of steps, whose residues a gap joins.
@@ -175,23 +160,21 @@ pub extern "C" fn teldruf_map(
     ensures residue { residue.new ≡ map_residue (map_by picture.now width height attribute neighbours steps.now gap workspace.old residue.old index.old) }
     ensures index { index.new ≡ map_index (map_by picture.now width height attribute neighbours steps.now gap workspace.old residue.old index.old) }
 {
-    match residues::map(
+    let grid = Grid {
+        width,
+        height,
+        neighbours,
+    };
+    codes::done(residues::map(
         picture,
-        Grid {
-            width,
-            height,
-            neighbours,
-        },
+        grid,
         calls::Kind::Thresholds(attribute),
         steps,
         gap,
         workspace,
         residue,
         index,
-    ) {
-        calls::Verdict::Accepted => 0,
-        calls::Verdict::Refused(cause) => refused(cause),
-    }
+    ))
 }
 
 // Writes the residue map and the index map of a picture for a list of triples, three words to a step.
@@ -212,23 +195,21 @@ pub extern "C" fn teldruf_map_triples(
     ensures residue { residue.new ≡ map_residue (triples_by picture.now width height neighbours steps.now gap workspace.old residue.old index.old) }
     ensures index { index.new ≡ map_index (triples_by picture.now width height neighbours steps.now gap workspace.old residue.old index.old) }
 {
-    match residues::map(
+    let grid = Grid {
+        width,
+        height,
+        neighbours,
+    };
+    codes::done(residues::map(
         picture,
-        Grid {
-            width,
-            height,
-            neighbours,
-        },
+        grid,
         calls::Kind::Triples,
         steps,
         gap,
         workspace,
         residue,
         index,
-    ) {
-        calls::Verdict::Accepted => 0,
-        calls::Verdict::Refused(cause) => refused(cause),
-    }
+    ))
 }
 
 // Writes the residue map and the index map of dark floc: those of the reversed picture, 255 less each grey.
@@ -254,23 +235,21 @@ pub extern "C" fn teldruf_dark_map(
     ensures index { index.new ≡
         map_index (reversed_call (map_by picture.now width height attribute neighbours steps.now gap workspace.old residue.old index.old)) }
 {
-    match dark::dark_map(
+    let grid = Grid {
+        width,
+        height,
+        neighbours,
+    };
+    codes::done(dark::dark_map(
         picture,
-        Grid {
-            width,
-            height,
-            neighbours,
-        },
+        grid,
         calls::Kind::Thresholds(attribute),
         steps,
         gap,
         workspace,
         residue,
         index,
-    ) {
-        calls::Verdict::Accepted => 0,
-        calls::Verdict::Refused(cause) => refused(cause),
-    }
+    ))
 }
 
 // Writes those of dark floc for a list of triples.
@@ -295,23 +274,21 @@ pub extern "C" fn teldruf_dark_map_triples(
     ensures index { index.new ≡
         map_index (reversed_call (triples_by picture.now width height neighbours steps.now gap workspace.old residue.old index.old)) }
 {
-    match dark::dark_map(
+    let grid = Grid {
+        width,
+        height,
+        neighbours,
+    };
+    codes::done(dark::dark_map(
         picture,
-        Grid {
-            width,
-            height,
-            neighbours,
-        },
+        grid,
         calls::Kind::Triples,
         steps,
         gap,
         workspace,
         residue,
         index,
-    ) {
-        calls::Verdict::Accepted => 0,
-        calls::Verdict::Refused(cause) => refused(cause),
-    }
+    ))
 }
 
 // Writes the residue map, the index map and the contrast map of light and dark floc together.
@@ -340,13 +317,14 @@ pub extern "C" fn teldruf_combined_map(
     ensures contrast { contrast.new ≡
         combined_contrast (map_by picture.now width height attribute neighbours steps.now gap workspace.old residue.old index.old) contrast.old }
 {
-    match dark::combined_map(
+    let grid = Grid {
+        width,
+        height,
+        neighbours,
+    };
+    codes::done(dark::combined_map(
         picture,
-        Grid {
-            width,
-            height,
-            neighbours,
-        },
+        grid,
         calls::Kind::Thresholds(attribute),
         steps,
         gap,
@@ -354,10 +332,7 @@ pub extern "C" fn teldruf_combined_map(
         residue,
         index,
         contrast,
-    ) {
-        calls::Verdict::Accepted => 0,
-        calls::Verdict::Refused(cause) => refused(cause),
-    }
+    ))
 }
 
 // Writes those of light and dark floc together, with the contrast map, for a list of triples.
@@ -385,13 +360,14 @@ pub extern "C" fn teldruf_combined_map_triples(
     ensures contrast { contrast.new ≡
         combined_contrast (triples_by picture.now width height neighbours steps.now gap workspace.old residue.old index.old) contrast.old }
 {
-    match dark::combined_map(
+    let grid = Grid {
+        width,
+        height,
+        neighbours,
+    };
+    codes::done(dark::combined_map(
         picture,
-        Grid {
-            width,
-            height,
-            neighbours,
-        },
+        grid,
         calls::Kind::Triples,
         steps,
         gap,
@@ -399,10 +375,7 @@ pub extern "C" fn teldruf_combined_map_triples(
         residue,
         index,
         contrast,
-    ) {
-        calls::Verdict::Accepted => 0,
-        calls::Verdict::Refused(cause) => refused(cause),
-    }
+    ))
 }
 
 // Answers where a row starts in the residue map of a side, 1 light or 2 dark. A host finds the row there, uncopied.
@@ -417,8 +390,5 @@ pub extern "C" fn teldruf_view_row(
 ) -> u64
     ensures answer { result ≡ code_of (viewed_numbers (viewed (view_call light.now dark.now width height row side))) }
 {
-    match viewer::view_start(light, dark, width, height, row, side) {
-        viewer::Viewed::Start(start) => start as u64,
-        viewer::Viewed::Refused(cause) => refused(cause),
-    }
+    codes::value(viewer::view_start(light, dark, width, height, row, side))
 }

@@ -1,26 +1,24 @@
 -- What the viewer hands back: of an accepted call that row of that map, at every position; of a refused one an empty part, which no accepted call
 -- hands back. Assumes nothing.
-use Prim.Native.Nat.{ℕ, ◌+◌, ◌-◌, ◌*◌, ◌≤◌, ◌<◌}
+use Rattle.std.specs.Prelude.{Ok, Err}
+use Rattle.calls.specs.Judging.{Verdict}
+use Prim.Native.Nat.{ℕ, ◌+◌, ◌*◌, ◌≤◌, ◌<◌}
 use mathlib.Core.Bool.{true, false, ◌||◌}
-use mathlib.Core.List.{List, [], ◌∷◌}
+use mathlib.Core.List.{List, []}
 use mathlib.Core.Logic.{◌⊎◌, inl, inr, ⊎_elim}
 use mathlib.Core.Path.{◌≡◌, refl, sym, ap, ◌∙◌}
 use native.Mathlib.Nat.{mul-le-mul_right, mul_comm}
 use native.Mathlib.Omega.{arith}
 use lib.Dec.{eqb, ltb}
-use lib.ListN.{length, get_or, take, drop, length-drop}
+use lib.ListN.{length, get_or, drop, length-drop}
 use lib.Seq.{length-take-le, get_or-take, get_or-drop}
-use borrow.Author.Tests.{eqb-true, ltb-true, eq-eqb, ne_eqb}
+use borrow.Author.Tests.{eqb-true, ltb-true}
 use Rattle.sets.proofs.Tests.{decided}
 use Rattle.causes.specs.Bounds.{most_pixels}
-use Rattle.causes.specs.Causes.{number_of}
 use Rattle.causes.specs.declared.Cause.{Cause}
 use Rattle.causes.proofs.Laws.{both_true, bounded}
-use Rattle.calls.specs.declared.Verdict.{Verdict}
-use Rattle.calls.specs.declared.Verdict.TheVariants.{Accepted, Refused}
 use Rattle.calls.proofs.Accepted.{AllHold, all_hold}
-use Rattle.viewer.specs.declared.Viewed.TheVariants.{Start}
-use Rattle.viewer.specs.View.{ViewCall, in_view, viewing_tests, view_verdict, side_map, row_start, row_of, viewed_part, viewed, viewed_numbers, ViewClaim}
+use Rattle.viewer.specs.View.{ViewCall, in_view, viewing_tests, view_verdict, side_map, row_start, row_of, viewed_part, viewed, ViewClaim}
 
 -- what an accepted call has passed
 pub record ViewPassed (call : ViewCall) : Type 0 where
@@ -34,7 +32,7 @@ pub record ViewPassed (call : ViewCall) : Type 0 where
 row_inside : (width height row : ℕ) → row < height → row * width + width ≤ width * height
 row_inside width height row below = omega (arith, mul-le-mul_right width below, mul_comm width height)
 
-pub view_passed : (call : ViewCall) → view_verdict call ≡ Accepted → ViewPassed call
+pub view_passed : (call : ViewCall) → view_verdict call ≡ Ok tt → ViewPassed call
 unfolding AllHold in_view
 view_passed call ok =
     let h = all_hold (viewing_tests (length call.light) (length call.dark) call.width call.height call.row call.side) ok in
@@ -48,38 +46,10 @@ view_passed call ok =
       inside = row_inside call.width call.height call.row (ltb-true call.row call.height seen.0);
     }
 
--- a call by the verdict that was found on it
-module _ (call : ViewCall) {verdict : Verdict} (judged : verdict ≡ view_verdict call) where
-  pub part_refused : {cause : Cause} → verdict ≡ Refused cause → [] ≡ viewed_part call
-  unfolding viewed_part
-  part_refused {cause} refused = let is : view_verdict call ≡ Refused cause = sym judged ∙ refused in rw is refl
-
-  pub start_refused : {cause : Cause} → verdict ≡ Refused cause → number_of cause ∷ [] ≡ viewed_numbers (viewed call)
-  unfolding viewed
-  start_refused {cause} refused = let is : view_verdict call ≡ Refused cause = sym judged ∙ refused in rw is refl
-
-  module _ (accepted : verdict ≡ Accepted) where
-    ok : view_verdict call ≡ Accepted
-    ok = sym judged ∙ accepted
-
-    pub passed : ViewPassed call
-    passed = view_passed call ok
-
-    pub start_told : 0 ∷ row_start call ∷ [] ≡ viewed_numbers (viewed call)
-    unfolding viewed
-    start_told = rw ok refl
-
-    -- a part from where the row starts to where it ends is the row
-    whole_row : row_start call + call.width - row_start call ≡ call.width
-    whole_row = omega arith
-
-    pub part_light : call.side ≡ 1 → take (row_start call + call.width - row_start call) (drop (row_start call) call.light) ≡ viewed_part call
-    unfolding viewed_part
-    part_light is = rw (ok, whole_row, eq-eqb call.side 1 is) refl
-
-    pub part_dark : (call.side ≡ 1 → ⊥) → take (row_start call + call.width - row_start call) (drop (row_start call) call.dark) ≡ viewed_part call
-    unfolding viewed_part
-    part_dark other = rw (ok, whole_row, ne_eqb call.side 1 other) refl
+-- a call that is accepted
+module _ (call : ViewCall) (accepted : Ok tt ≡ view_verdict call) where
+  pub passed : ViewPassed call
+  passed = view_passed call (sym accepted)
 
 -- the claim
 module _ (call : ViewCall) where
@@ -98,11 +68,11 @@ module _ (call : ViewCall) where
       (drop (row_start call) (side_map call))
       (omega (arith, length-drop (row_start call) (side_map call), side_long passed, passed.inside))
 
-  part_long : view_verdict call ≡ Accepted → length (viewed_part call) ≡ call.width
+  part_long : view_verdict call ≡ Ok tt → length (viewed_part call) ≡ call.width
   unfolding viewed_part
   part_long ok = rw ok (row_long (view_passed call ok))
 
-  part_row : view_verdict call ≡ Accepted → (column : ℕ) → column < call.width
+  part_row : view_verdict call ≡ Ok tt → (column : ℕ) → column < call.width
       → get_or (viewed_part call) column 0 ≡ get_or (side_map call) (row_start call + column) 0
   unfolding viewed_part
   part_row ok column inside =
@@ -111,21 +81,25 @@ module _ (call : ViewCall) where
       (get_or-take call.width (drop (row_start call) (side_map call)) column 0 inside
       ∙ get_or-drop (row_start call) (side_map call) column 0)
 
-  refused_or : (verdict : Verdict) → (verdict ≡ Accepted) ⊎ ((cause : Cause) × (verdict ≡ Refused cause))
-  refused_or Accepted = inl refl
-  refused_or (Refused cause) = inr (cause, refl)
+  refused_or : (verdict : Verdict) → (verdict ≡ Ok tt) ⊎ ((cause : Cause) × (verdict ≡ Err cause))
+  refused_or (Ok done) = inl refl
+  refused_or (Err cause) = inr (cause, refl)
 
-  part_empty : viewed_part call ≡ [] → (cause : Cause) × (view_verdict call ≡ Refused cause)
+  part_empty : viewed_part call ≡ [] → (cause : Cause) × (view_verdict call ≡ Err cause)
   part_empty none =
       ⊎_elim
-      (λ (ok : view_verdict call ≡ Accepted).
+      (λ (ok : view_verdict call ≡ Ok tt).
       absurd (omega (arith, part_long ok, ap (λ (part : List ℕ). length part) none, (view_passed call ok).wide)))
       (λ refused. refused)
       (refused_or (view_verdict call))
 
-  start_is : view_verdict call ≡ Accepted → viewed call ≡ Start (row_start call)
+  start_is : view_verdict call ≡ Ok tt → viewed call ≡ Ok (row_start call)
   unfolding viewed
   start_is ok = rw ok refl
+
+  part_refused : {cause : Cause} → view_verdict call ≡ Err cause → [] ≡ viewed_part call
+  unfolding viewed_part
+  part_refused is = rw is refl
 
   pub view_claim : ViewClaim call
   view_claim =
@@ -133,5 +107,5 @@ module _ (call : ViewCall) where
         start = start_is;
         long = part_long;
         row = part_row;
-        empty = (part_empty, (λ (cause, refused). sym (part_refused call {verdict = view_verdict call} refl refused)));
+        empty = (part_empty, (λ (cause, refused). sym (part_refused refused)));
       }

@@ -1,5 +1,7 @@
 -- The viewer's call: "A viewer gives a row (from 0) and a side (1 light, 2 dark) and receives that row of the one lent residue map or the other,
 -- uncopied."
+use Rattle.std.specs.Prelude.{Result, Ok, Err}
+use Rattle.calls.specs.Judging.{Verdict}
 use Rattle.std.specs.Prelude.{ℕ, ◌+◌, ◌*◌, ◌<◌, Bool, cond, ◌&&◌, ◌||◌, List, [], ◌∷◌, ◌↔◌, ◌≡◌, eqb, ltb, length, get_or, take, drop}
 use Rattle.causes.specs.Causes.{number_of}
 use Rattle.causes.specs.Sides.{sides_fit}
@@ -7,10 +9,6 @@ use Rattle.causes.specs.declared.Cause.{Cause}
 use Rattle.causes.specs.declared.Cause.TheVariants.{Sides, Output, View}
 use Rattle.calls.specs.Judging.{Test, verdict_of}
 use Rattle.calls.specs.Calls.{after}
-use Rattle.calls.specs.declared.Verdict.{Verdict}
-use Rattle.calls.specs.declared.Verdict.TheVariants.{Accepted, Refused}
-use Rattle.viewer.specs.declared.Viewed.{Viewed}
-use Rattle.viewer.specs.declared.Viewed.TheVariants.{Start, Refused as NotViewed}
 
 -- what a call names and is lent
 pub record ViewCall : Type 0 where
@@ -60,25 +58,25 @@ unfoldable pub viewed_part : ViewCall → List ℕ
 viewed_part call = after (view_verdict call) (row_of call) []
 
 -- the answer: where the row starts, or the cause
-abbrev pub viewed_by : Verdict → ℕ → Viewed
-viewed_by Accepted start = Start start
-viewed_by (Refused cause) start = NotViewed cause
+abbrev pub viewed_by : Verdict → ℕ → Result ℕ Cause
+viewed_by (Ok done) start = Ok start
+viewed_by (Err cause) start = Err cause
 
-unfoldable pub viewed : ViewCall → Viewed
+unfoldable pub viewed : ViewCall → Result ℕ Cause
 viewed call = viewed_by (view_verdict call) (row_start call)
 
 -- "this paper's number and values for each enum case": 0 and where the row starts, or the number of the cause
-abbrev pub viewed_numbers : Viewed → List ℕ
-viewed_numbers (Start start) = 0 ∷ start ∷ []
-viewed_numbers (NotViewed cause) = number_of cause ∷ []
+abbrev pub viewed_numbers : Result ℕ Cause → List ℕ
+viewed_numbers (Ok start) = 0 ∷ start ∷ []
+viewed_numbers (Err cause) = number_of cause ∷ []
 
 -- what the two functions promise of a call, the answer and the part
 pub record ViewClaim (call : ViewCall) : Type 0 where
   -- an accepted call is told where the row starts
-  pub start : view_verdict call ≡ Accepted → viewed call ≡ Start (call.row * call.width)
+  pub start : view_verdict call ≡ Ok tt → viewed call ≡ Ok (call.row * call.width)
   -- an accepted call gets that row of that map, at every position
-  pub long : view_verdict call ≡ Accepted → length (viewed_part call) ≡ call.width
-  pub row : view_verdict call ≡ Accepted → (column : ℕ) → column < call.width
+  pub long : view_verdict call ≡ Ok tt → length (viewed_part call) ≡ call.width
+  pub row : view_verdict call ≡ Ok tt → (column : ℕ) → column < call.width
       → get_or (viewed_part call) column 0 ≡ get_or (side_map call) (call.row * call.width + column) 0
   -- the part is empty exactly where the call is refused
-  pub empty : viewed_part call ≡ [] ↔ ((cause : Cause) × (view_verdict call ≡ Refused cause))
+  pub empty : viewed_part call ≡ [] ↔ ((cause : Cause) × (view_verdict call ≡ Err cause))

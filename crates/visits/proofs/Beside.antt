@@ -1,23 +1,25 @@
 -- The sides and corners of the pixel p where the flood stands: where there is no pixel on a side, what a visit of the one there asks, and that it is the
 -- only one. No other laws of the flood look into what a neighbour is.
 use Prim.Native.Nat.{ℕ, ◌+◌, ◌-◌, ◌%◌, ◌≤◌, ◌<◌}
-use mathlib.Core.Bool.{true, false}
+use Rattle.std.specs.Prelude.{Option, Some, None, MatchOption}
+use Rattle.std.proofs.lemmas.Option.{MatchOption-at_some}
+use mathlib.Core.Bool.{Bool, true, false, ◌&&◌, ◌||◌}
 use mathlib.Core.List.{List}
 use mathlib.Core.Logic.{◌⊎◌, inl, inr}
-use mathlib.Core.Path.{◌≡◌, refl, sym, ap, ◌∙◌}
+use mathlib.Core.Path.{◌≡◌, refl, sym, ap, ap₂, ◌∙◌}
 use native.Mathlib.Nat.{mod_self, mul-mod_right}
 use native.Mathlib.Omega.{arith}
 use lib.Dec.{eqb}
 use lib.ListN.{length}
 use borrow.Author.Tests.{eqb-true, eqb-false, eq-eqb}
 use Rattle.sets.specs.Sets.{Positions}
-use Rattle.sets.proofs.Tests.{and_left, and_both, or_cases, or_left, or_right}
+use Rattle.sets.proofs.Tests.{and_left, and_right, and_both, or_cases, or_left, or_right}
 use Rattle.grid.specs.Neighbours.{adjacent}
 use Rattle.grid.specs.declared.Grid.{Grid}
 use Rattle.grid.proofs.Sides.{After, forth, back, side_of, below_is, right_is, right_inside, is_next_in_row, is_next_in_column, row_in, row_down}
 use Rattle.levels.proofs.Counts.{by_cases}
 use Rattle.queues.specs.Queues.{Lists}
-use Rattle.visits.specs.Visits.{Standing, Visiting, above, left_of, right_of, below, either_side, beside, corners_above, corners_below, corners, Based, Visited, MetBut}
+use Rattle.visits.specs.Visits.{Standing, Visiting, above, left_of, right_of, below, either_side, beside, corners_above, corners_below, corners, Based, Only, beside_at, Visited, MetBut}
 use Rattle.visits.proofs.Visits.{standing_in, visiting, stays}
 
 -- what comes after p, or has p after it, is a neighbour
@@ -59,45 +61,79 @@ pub met_but_right :
 met_but_right {grid = grid} {p = p} U here x hx e =
     by_cases (all_around grid p x e) (λ right. inl right) (λ other. inr (U.met here x hx other))
 
+-- the pixels on the sides and corners are neighbours
+module _ (grid : Grid) (p x : ℕ) where
+  pub near_above : above grid p x ≡ true → adjacent grid p x ≡ true
+  near_above e = comes grid p x (inr (inl (inr e)))
+
+  pub near_left : left_of grid p x ≡ true → adjacent grid p x ≡ true
+  near_left e = comes grid p x (inr (inl (inl e)))
+
+  pub near_right : right_of grid p x ≡ true → adjacent grid p x ≡ true
+  near_right e = comes grid p x (inl (inl (inl e)))
+
+  pub near_below : below grid p x ≡ true → adjacent grid p x ≡ true
+  near_below e = comes grid p x (inl (inl (inr e)))
+
+  pub near_corner : corners grid p x ≡ true → adjacent grid p x ≡ true
+  near_corner e =
+      let eight : grid.neighbours ≡ 8 = eqb-true _ 8 (and_left (eqb grid.neighbours 8) _ e) in
+      by_cases
+      (or_cases (corners_above grid p x) (corners_below grid p x) (and_right (eqb grid.neighbours 8) _ e))
+      (λ over. comes grid p x (inr (inr (eight, over))))
+      (λ under. comes grid p x (inl (inr (eight, under))))
+
+-- the pixel above p and the one below, by what the code finds
+module _ (grid : Grid) (n p : ℕ) where
+  pub only_above :
+      (r : Option ℕ) → MatchOption r (p < grid.width) (λ (q : ℕ). q + grid.width ≡ p) → Only n (above grid p) r
+  only_above None first =
+      record { one = λ q e. absurd (cc); only = λ x h e. absurd (omega (arith, below_is grid.width x p e)) }
+  only_above (Some b) is =
+      record {
+        one = λ q e. let same : b ≡ q = cc in is_next_in_column grid.width q p (omega arith);
+        only = λ x h e. let same : b ≡ x = omega (arith, below_is grid.width x p e) in ap Some same;
+      }
+
+  pub only_below :
+      (r : Option ℕ) → MatchOption r (n ≤ p + grid.width) (λ (q : ℕ). (q ≡ p + grid.width) × (q < n)) → Only n (below grid p) r
+  only_below None last =
+      record { one = λ q e. absurd (cc); only = λ x h e. absurd (omega (arith, below_is grid.width p x e)) }
+  only_below (Some b) is =
+      record {
+        one = λ q e. let same : b ≡ q = cc in is_next_in_column grid.width p q (omega (arith, is.0));
+        only = λ x h e. let same : b ≡ x = omega (arith, is.0, below_is grid.width p x e) in ap Some same;
+      }
+
 module _ (grid : Grid) (p : ℕ) where
-  pub one_above : grid.width ≤ p → above grid p (p - grid.width) ≡ true
-  one_above later = is_next_in_column grid.width (p - grid.width) p (omega arith)
-
-  pub is_above : (q : ℕ) → above grid p q ≡ true → q ≡ p - grid.width
-  is_above q e = omega (arith, below_is grid.width q p e)
-
-  pub one_below : below grid p (p + grid.width) ≡ true
-  one_below = is_next_in_column grid.width p (p + grid.width) refl
-
-  pub is_below : (q : ℕ) → below grid p q ≡ true → q ≡ p + grid.width
-  is_below = below_is grid.width p
-
   pub is_left : (q : ℕ) → left_of grid p q ≡ true → q ≡ p - 1
   is_left q e = omega (arith, right_is grid.width q p e)
 
   pub is_right : (q : ℕ) → right_of grid p q ≡ true → q ≡ p + 1
   is_right = right_is grid.width p
 
+-- two tests that hold together
+both_ways : (a b : Bool) → (a ≡ true → b ≡ true) → (b ≡ true → a ≡ true) → a ≡ b
+both_ways true b f g = sym (f refl)
+both_ways false true f g = g refl
+both_ways false false f g = refl
+
 module _ {grid : Grid} {picture : List ℕ} {s : Lists} {l p : ℕ} (S : Standing grid picture s l p) where
   abbrev w : ℕ
   w = grid.width
 
-  -- above: none in the first row
-  pub none_above : p < w → Visited grid picture s s p p (above grid p)
-  none_above first = stays S (λ q b e. absurd (omega (arith, below_is w q p e)))
+  pub visit_above :
+      (r : Option ℕ) → MatchOption r (p < w) (λ (q : ℕ). q + w ≡ p) → (k : ℕ) → r ≡ Some k → Visiting grid picture s l p k
+  visit_above r is k e =
+      let one = (only_above grid (length picture) p r is).one k e in
+      visiting S k (omega (arith, standing_in S, below_is w k p one)) (near_above grid p k one)
 
-  pub visit_above : w ≤ p → Visiting grid picture s l p (p - w)
-  visit_above later =
-      visiting S (p - w) (omega (arith, standing_in S))
-      (comes grid p (p - w) (inr (inl (inr (one_above grid p later)))))
-
-  -- below: none in the last row
-  pub none_below : length picture - p ≤ w → Visited grid picture s s p p (below grid p)
-  none_below last = stays S (λ q b e. absurd (omega (arith, below_is w p q e)))
-
-  pub visit_below : w < length picture - p → Visiting grid picture s l p (p + w)
-  visit_below earlier =
-      visiting S (p + w) (omega arith) (comes grid p (p + w) (inl (inl (inr (one_below grid p)))))
+  pub visit_below :
+      (r : Option ℕ) → MatchOption r (length picture ≤ p + w) (λ (q : ℕ). (q ≡ p + w) × (q < length picture)) → (k : ℕ)
+      → r ≡ Some k → Visiting grid picture s l p k
+  visit_below r is k e =
+      let here : (k ≡ p + w) × (k < length picture) = MatchOption-at_some _ _ k e is in
+      visiting S k here.1 (near_below grid p k (is_next_in_column w p k here.0))
 
   -- the rows are whole
   rows_whole : length picture % w ≡ 0
@@ -143,16 +179,16 @@ module _ {grid : Grid} {picture : List ℕ} {s : Lists} {l p : ℕ} (S : Standin
         near = λ x e.
             by_cases
             (or_cases (left_of grid p x) (right_of grid p x) e)
-            (λ left. comes grid p x (inr (inl (inl left))))
-            (λ right. comes grid p x (inl (inl (inl right))));
+            (near_left grid p x)
+            (near_right grid p x);
       }
 
   -- corners: where 8 neighbours are named, those beside the pixels above and below p
   pub no_corners : (grid.neighbours ≡ 8 → ⊥) → Visited grid picture s s p p (corners grid p)
   no_corners other = stays S (λ q b e. absurd (other (eqb-true _ 8 (and_left (eqb grid.neighbours 8) _ e))))
 
-  pub no_corners_above : p < w → Visited grid picture s s p p (corners_above grid p)
-  no_corners_above first = stays S (λ q b e. absurd (none q (or_cases (right_of grid p (q + w)) (left_of grid p (q + w)) e)))
+  no_corners_above : p < w → (q : ℕ) → corners_above grid p q ≡ true → ⊥
+  no_corners_above first q e = none q (or_cases (right_of grid p (q + w)) (left_of grid p (q + w)) e)
     where
       none : (q : ℕ) → (right_of grid p (q + w) ≡ true) ⊎ (left_of grid p (q + w) ≡ true) → ⊥
       none q (inl right) =
@@ -161,8 +197,8 @@ module _ {grid : Grid} {picture : List ℕ} {s : Lists} {l p : ℕ} (S : Standin
           start (ap (λ (k : ℕ). k % w) same ∙ mod_self w)
       none q (inr left) = omega (arith, right_is w (q + w) p left)
 
-  pub no_corners_below : length picture - p ≤ w → Visited grid picture s s p p (corners_below grid p)
-  no_corners_below last = stays S (λ q b e. absurd (none q b (or_cases (left_of grid (p + w) q) (right_of grid (p + w) q) e)))
+  no_corners_below : length picture ≤ p + w → (q : ℕ) → q < length picture → corners_below grid p q ≡ true → ⊥
+  no_corners_below last q b e = none q b (or_cases (left_of grid (p + w) q) (right_of grid (p + w) q) e)
     where
       none : (q : ℕ) → q < length picture → (left_of grid (p + w) q ≡ true) ⊎ (right_of grid (p + w) q ≡ true) → ⊥
       none q b (inl left) =
@@ -170,28 +206,25 @@ module _ {grid : Grid} {picture : List ℕ} {s : Lists} {l p : ℕ} (S : Standin
           right_inside w q (p + w) left (rw same rows_whole)
       none q b (inr right) = omega (arith, right_is w (p + w) q right)
 
-  -- the corners above p are beside the pixel above it
-  module _ (later : w ≤ p) (x : ℕ) where
-    above_row : p - w + w ≡ p
-    above_row = omega arith
+  -- the corners above p are beside b, the pixel above it
+  module _ (b : ℕ) (over : b + w ≡ p) (x : ℕ) where
+    left_up : left_of grid p (x + w) ≡ left_of grid b x
+    left_up = rw over at (row_down w x b)
 
-    left_up : left_of grid p (x + w) ≡ left_of grid (p - w) x
-    left_up = rw above_row at (row_down w x (p - w))
+    right_up : right_of grid p (x + w) ≡ right_of grid b x
+    right_up = rw over at (row_down w b x)
 
-    right_up : right_of grid p (x + w) ≡ right_of grid (p - w) x
-    right_up = rw above_row at (row_down w (p - w) x)
-
-    pub above_beside : corners_above grid p x ≡ true → beside grid (p - w) x ≡ true
+    above_beside : corners_above grid p x ≡ true → beside grid b x ≡ true
     above_beside e =
         by_cases
         (or_cases (right_of grid p (x + w)) (left_of grid p (x + w)) e)
-        (λ right. or_right (left_of grid (p - w) x) _ (sym right_up ∙ right))
+        (λ right. or_right (left_of grid b x) _ (sym right_up ∙ right))
         (λ left. or_left _ _ (sym left_up ∙ left))
 
-    beside_above : beside grid (p - w) x ≡ true → corners_above grid p x ≡ true
+    beside_above : beside grid b x ≡ true → corners_above grid p x ≡ true
     beside_above e =
         by_cases
-        (or_cases (left_of grid (p - w) x) (right_of grid (p - w) x) e)
+        (or_cases (left_of grid b x) (right_of grid b x) e)
         (λ left. or_right (right_of grid p (x + w)) _ (left_up ∙ left))
         (λ right. or_left _ _ (right_up ∙ right))
 
@@ -200,7 +233,7 @@ module _ {grid : Grid} {picture : List ℕ} {s : Lists} {l p : ℕ} (S : Standin
     based_above later =
         record {
           within = omega (arith, standing_in S);
-          near = λ x e. comes grid p x (inr (inr (eight, beside_above later x e)));
+          near = λ x e. comes grid p x (inr (inr (eight, beside_above (p - w) (omega arith) x e)));
         }
 
     pub based_below : w < length picture - p → Based grid picture p (p + w)
@@ -209,3 +242,44 @@ module _ {grid : Grid} {picture : List ℕ} {s : Lists} {l p : ℕ} (S : Standin
           within = omega arith;
           near = λ x e. comes grid p x (inl (inr (eight, e)));
         }
+
+    -- by what the code finds above and below p
+    pub based_over :
+        (r : Option ℕ) → MatchOption r (p < w) (λ (q : ℕ). q + w ≡ p) → (b : ℕ) → r ≡ Some b → Based grid picture p b
+    based_over r is b e =
+        let over : b + w ≡ p = MatchOption-at_some _ _ b e is in
+        let same : b ≡ p - w = omega arith in
+        rw same (based_above (omega arith))
+
+    pub based_under :
+        (r : Option ℕ) → MatchOption r (length picture ≤ p + w) (λ (q : ℕ). (q ≡ p + w) × (q < length picture)) → (b : ℕ)
+        → r ≡ Some b → Based grid picture p b
+    based_under r is b e =
+        let under : (b ≡ p + w) × (b < length picture) = MatchOption-at_some _ _ b e is in
+        rw under.0 (based_below (omega (arith, under.0, under.1)))
+
+  pub beside_over :
+      (r : Option ℕ) → MatchOption r (p < w) (λ (q : ℕ). q + w ≡ p) → (x : ℕ) → beside_at grid r x ≡ corners_above grid p x
+  beside_over None first x = both_ways _ _ (λ e. absurd (cc)) (λ e. absurd (no_corners_above first x e))
+  beside_over (Some b) over x = both_ways _ _ (beside_above b over x) (above_beside b over x)
+
+  pub beside_under :
+      (r : Option ℕ) → MatchOption r (length picture ≤ p + w) (λ (q : ℕ). (q ≡ p + w) × (q < length picture))
+      → (x : ℕ) → x < length picture → beside_at grid r x ≡ corners_below grid p x
+  beside_under None last x h = both_ways _ _ (λ e. absurd (cc)) (λ e. absurd (no_corners_below last x h e))
+  beside_under (Some b) under x h = rw under.0 refl
+
+  -- what is beside the base above, then the one below, is on a corner
+  pub corner_over :
+      grid.neighbours ≡ 8 → (r : Option ℕ) → MatchOption r (p < w) (λ (q : ℕ). q + w ≡ p) → (x : ℕ) → beside_at grid r x ≡ true
+      → corners grid p x ≡ true
+  corner_over eight r is x e =
+      and_both _ _ (eq-eqb grid.neighbours 8 eight) (or_left _ _ (sym (beside_over r is x) ∙ e))
+
+  pub corners_are :
+      grid.neighbours ≡ 8 → (r r' : Option ℕ) → MatchOption r (p < w) (λ (q : ℕ). q + w ≡ p)
+      → MatchOption r' (length picture ≤ p + w) (λ (q : ℕ). (q ≡ p + w) × (q < length picture)) → (x : ℕ) → x < length picture
+      → (beside_at grid r x || beside_at grid r' x) ≡ corners grid p x
+  corners_are eight r r' is is' x h =
+      ap₂ (λ (a b : Bool). a || b) (beside_over r is x) (beside_under r' is' x h)
+      ∙ sym (ap (λ (a : Bool). a && either_side corners_above corners_below grid p x) (eq-eqb grid.neighbours 8 eight))

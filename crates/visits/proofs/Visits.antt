@@ -1,10 +1,12 @@
 -- A visit of a neighbour on the lists: nothing is stored where it is met, and where it is not it is put into its queue or takes the place at
 -- the head.
 use Prim.Native.Nat.{ℕ, suc, ◌≤◌, ◌<◌}
-use mathlib.Core.Bool.{true, false, ◌||◌}
+use Rattle.std.specs.Prelude.{Option, Some, None}
+use Rattle.std.specs.Bool.{then_some}
+use mathlib.Core.Bool.{Bool, true, false, ◌||◌}
 use mathlib.Core.List.{List}
 use mathlib.Core.Logic.{◌⊎◌, inl, inr}
-use mathlib.Core.Path.{◌≡◌, refl, sym, ap, ◌∙◌}
+use mathlib.Core.Path.{◌≡◌, refl, sym, ap, subst, ◌∙◌}
 use native.Mathlib.Omega.{arith}
 use lib.Dec.{eqb, ltb}
 use lib.ListN.{get_or, length}
@@ -23,12 +25,13 @@ use Rattle.flooding.proofs.Meeting.{met_sound, met_at, met_ord, tail_le, tail_lt
 use Rattle.flooding.proofs.Following.{followed_sound, followed_at}
 use Rattle.flooding.proofs.Named.{turned_back, count_stored}
 use Rattle.flooding.proofs.Numbers.{taken_fits, pushed_number_fits, open_number, open_root, Renamed, named_pushed}
+use Rattle.queues.specs.declared.Opened.{Opened}
 use Rattle.queues.specs.Queues.{Lists, lists, numbers_of, state_of, Nameable, Fitting, Placing, Replaceable, Replacing}
-use Rattle.visits.specs.Visits.{head_pixel, Ready, Standing, StandsAt, Visiting, Visited, VisitedTo, met_test, met_count, MetBut, VisitedAround}
+use Rattle.visits.specs.Visits.{head_pixel, Ready, Standing, StandsAt, Visiting, Visited, Moved, VisitedTo, met_test, met_count, MetBut, VisitedAround}
 
 -- a pixel in its queue, and the parents and roots that the numbers stand for then, are a step of the flood
 pub pushes :
-    {n q l : ℕ} {g par root : ℕ → ℕ} {ws tails opened ws' tails' opened' : List ℕ} (heads : List ℕ)
+    {n q l : ℕ} {g par root : ℕ → ℕ} {ws tails ws' tails' : List ℕ} {opened opened' : Opened} (heads : List ℕ)
     → Placing n q l ws tails opened ws' tails' opened'
     → (N : Renamed n l q g par root (numbers_of n ws' opened'))
     → Pushed n l q N.r (state_of n par root (lists ws heads tails opened))
@@ -82,7 +85,7 @@ module _ {grid : Grid} {picture : List ℕ} {s : Lists} {l p : ℕ} (S : Standin
   stands_at = rw standing_grey S
 
   -- a node is open there
-  here_open : get_or s.opened l 0 < length picture
+  here_open : get_or s.opened.numbers l 0 < length picture
   here_open = let A = S.ready.at in open_number S.ready.named l A.level A.open_here
 
   pub visiting : (q : ℕ) → q < length picture → adjacent grid p q ≡ true → Visiting grid picture s l p q
@@ -160,12 +163,6 @@ module _ {grid : Grid} {picture : List ℕ} {s : Lists} where
         → Visited grid picture s s' p r other
     covers within = on_other (λ e x hx h. by_cases (within x hx h) (U.met e x hx) (U.kept x hx))
 
-  -- the visit of the only pixel on a side
-  pub on_side :
-      {s' : Lists} {p q r : ℕ} {side : Positions} → Visited grid picture s s' p r (eqb q) → ((x : ℕ) → side x ≡ true → x ≡ q)
-      → Visited grid picture s s' p r side
-  on_side {q = q} U only = covers U (λ x hx h. inl (eq-eqb q x (sym (only x h))))
-
   -- one visit after another that stays
   pub visits :
       {s₁ s₂ : Lists} {p q r : ℕ} {side₁ side₂ : Positions} → Visited grid picture s s₁ p q side₁ → q ≡ p
@@ -181,31 +178,69 @@ module _ {grid : Grid} {picture : List ℕ} {s : Lists} where
             by_cases (or_cases (side₁ x) (side₂ x) h) (λ a. B.kept x hx (A.met here x hx a)) (λ b. B.met e x hx b);
       }
 
-  -- by the level that is answered
-  pub no_visit : {l p : ℕ} {side : Positions} → Visited grid picture s s p p side → VisitedTo grid picture s s l l p side
-  no_visit none = record { stayed = λ e. none; there = λ ne. absurd (ne refl); went = λ ne. absurd (ne refl) }
+  -- by the answer: none
+  pub no_visit : {p : ℕ} {side : Positions} → Visited grid picture s s p p side → VisitedTo grid picture s s None p side
+  no_visit none = record { stayed = λ e. none; went = λ q e. absurd (cc) }
 
+  module _ {s' : Lists} {r : Option ℕ} {p : ℕ} {side other : Positions} (U : VisitedTo grid picture s s' r p side) where
+    -- on another side with the pixel to which the flood has moved
+    pub leads : {q : ℕ} → r ≡ Some q → (side q ≡ true → other q ≡ true) → Moved grid picture s s' p q other
+    leads {q} e near =
+        let M = U.went q e in
+        record { there = near M.there; away = M.away; visited = moved M.visited M.away }
+
+    -- on another side, of which all that is not on this one is met
+    pub covers_to :
+        ((x : ℕ) → x < length picture → other x ≡ true → (side x ≡ true) ⊎ (number_at s.words x < length picture))
+        → ((x : ℕ) → x < length picture → side x ≡ true → other x ≡ true) → VisitedTo grid picture s s' r p other
+    covers_to within near =
+        record {
+          stayed = λ e. covers (U.stayed e) within;
+          went = λ q e. leads e (near q (standing_in (U.went q e).visited.stands));
+        }
+
+  -- the visit of the only pixel on a side
   pub on_side_to :
-      {s' : Lists} {l p q r : ℕ} {side : Positions} → VisitedTo grid picture s s' l r p (eqb q) → ((x : ℕ) → side x ≡ true → x ≡ q)
-      → side q ≡ true → VisitedTo grid picture s s' l r p side
+      {s' : Lists} {p q : ℕ} {r : Option ℕ} {side : Positions} → VisitedTo grid picture s s' r p (eqb q)
+      → ((x : ℕ) → x < length picture → side x ≡ true → x ≡ q) → side q ≡ true → VisitedTo grid picture s s' r p side
   on_side_to {q = q} U only one =
+      covers_to U (λ x hx h. inl (eq-eqb q x (sym (only x hx h)))) (λ x hx h. rw (← eqb-true q x h) one)
+
+  -- a visit after others that stay
+  pub then_to :
+      {s₁ s₂ : Lists} {p : ℕ} {r : Option ℕ} {side₁ side₂ : Positions} → Visited grid picture s s₁ p p side₁
+      → VisitedTo grid picture s₁ s₂ r p side₂ → VisitedTo grid picture s s₂ r p (λ x. side₁ x || side₂ x)
+  then_to {side₁ = side₁} A B =
       record {
-        stayed = λ e. on_side (U.stayed e) only;
-        there = λ ne. rw (← eqb-true q _ (U.there ne)) one;
-        went = U.went;
+        stayed = λ e. visits A refl (B.stayed e);
+        went = λ q e.
+            let M = B.went q e in
+            record { there = or_right (side₁ q) _ M.there; away = M.away; visited = visits A refl M.visited };
       }
 
-  -- the flood moves up to the pixel on a side
-  pub climbs :
-      {s' : Lists} {l p q r : ℕ} {side any : Positions} → VisitedTo grid picture s s' l r p side → (r ≡ l → ⊥)
-      → ((x : ℕ) → side x ≡ true → x ≡ q) → Visited grid picture s s' p q any
-  climbs {any = any} U ne only = rw (only _ (U.there ne)) at (U.went ne any)
+  pub then_moves :
+      {s₁ s₂ : Lists} {p q : ℕ} {side₁ side₂ : Positions} → Visited grid picture s s₁ p p side₁ → Moved grid picture s₁ s₂ p q side₂
+      → Moved grid picture s s₂ p q side₂
+  then_moves A M = record { there = M.there; away = M.away; visited = moved (visits A refl M.visited) M.away }
 
-  -- the last visit, of all neighbours that were not met, after others that stay
+  -- the last visit, of all that was not met
   pub then_last :
-      {s₁ s₂ : Lists} {p q r : ℕ} {side : Positions} → Visited grid picture s s₁ p q side → q ≡ p
-      → VisitedAround grid picture s₁ s₂ p r → VisitedAround grid picture s s₂ p r
-  then_last {side = side} A here B = covers (visits A here B) (λ x hx h. inl (or_right (side x) _ h))
+      {s₁ s₂ : Lists} {p : ℕ} {r : Option ℕ} {side₁ side₂ : Positions} → Visited grid picture s s₁ p p side₁
+      → VisitedTo grid picture s₁ s₂ r p side₂ → VisitedTo grid picture s s₂ r p side₂
+  then_last {side₁ = side₁} A B =
+      record {
+        stayed = λ e. covers (visits A refl (B.stayed e)) (λ x hx h. inl (or_right (side₁ x) _ h));
+        went = λ q e. then_moves A (B.went q e);
+      }
+
+  -- by the answer: a pixel
+  pub moves :
+      {s' : Lists} {p q : ℕ} {side : Positions} → Moved grid picture s s' p q side → VisitedTo grid picture s s' (Some q) p side
+  moves {s'} {p} {q} {side} M =
+      record {
+        stayed = λ e. absurd (cc);
+        went = λ x e. let same : q ≡ x = cc in subst (λ (y : ℕ). Moved grid picture s s' p y side) same M;
+      }
 
   -- the root of an open level is a pixel of it
   pub root_greys :
@@ -230,7 +265,7 @@ module _ {grid : Grid} {picture : List ℕ} {s : Lists} where
     abbrev R : Ready grid picture s l
     R = U.standing.ready
 
-    pub already : met_test (length picture) s.words q ≡ true → VisitedTo grid picture s s l l p (eqb q)
+    pub already : met_test (length picture) s.words q ≡ true → VisitedTo grid picture s s None p (eqb q)
     already met = no_visit (met_already U.standing (λ x h. sym (eqb-true q x h)) met)
 
     -- a pixel that is not met has no number
@@ -245,15 +280,15 @@ module _ {grid : Grid} {picture : List ℕ} {s : Lists} where
         (λ o. absurd (omega (arith, R.at.top (grey picture q) (R.bytes q) o)))
         (λ ge. ge)
 
-    pub not_open : l < grey picture q → get_or s.opened (grey picture q) 0 ≡ length picture
+    pub not_open : l < grey picture q → get_or s.opened.numbers (grey picture q) 0 ≡ length picture
     not_open brighter =
         by_cases
-        (below_or_not (get_or s.opened (grey picture q) 0) (length picture))
+        (below_or_not (get_or s.opened.numbers (grey picture q) 0) (length picture))
         (λ o. absurd (omega (arith, no_root brighter, open_root R.named (grey picture q) (R.bytes q) o)))
         (λ ge. omega (arith, R.named.opens (grey picture q) (R.bytes q)))
 
     -- one is open at the same level
-    pub is_open : grey picture q ≡ l → get_or s.opened (grey picture q) 0 < length picture
+    pub is_open : grey picture q ≡ l → get_or s.opened.numbers (grey picture q) 0 < length picture
     is_open same = rw same (here_open U.standing)
 
     module _ (new : number_at s.words q ≡ length picture) where
@@ -274,7 +309,7 @@ module _ {grid : Grid} {picture : List ℕ} {s : Lists} where
             nameable = nameable_for R (R.bytes q) U.within new;
           }
 
-      module _ {ws' tails' opened' : List ℕ} (same_length : length ws' ≡ length s.words)
+      module _ {ws' tails' : List ℕ} {opened' : Opened} (same_length : length ws' ≡ length s.words)
           (P : Placing (length picture) q (grey picture q) s.words s.tails s.opened ws' tails' opened')
         where
           named_fits : number_at ws' q < length picture
@@ -348,27 +383,13 @@ module _ {grid : Grid} {picture : List ℕ} {s : Lists} where
               }
 
           pub queued_to :
-              {r : ℕ} → ((l < grey picture q) × (r ≡ grey picture q)) ⊎ ((grey picture q ≤ l) × (r ≡ l))
-              → VisitedTo grid picture s after l r p (eqb q)
-          queued_to {r} (inl up) =
-              let here : head_pixel (length picture) after r ≡ q = rw up.1 (first_here up.0) in
-              record {
-                stayed = λ e. absurd (omega (arith, up.0, up.1));
-                there = λ ne. eq-eqb q _ (sym here);
-                went = λ ne any. rw here (moved (queued (inl (up.0, refl))) other);
-              }
-          queued_to (inr stay) =
-              record {
-                stayed = λ e. queued (inr (stay.0, refl));
-                there = λ ne. absurd (ne stay.1);
-                went = λ ne. absurd (ne stay.1);
-              }
-
--- the flood moves up after visits that stay
-pub then_climbs :
-    {grid : Grid} {picture : List ℕ} {s s₁ s₂ : Lists} {l p q r : ℕ} {side₁ side₂ any : Positions} → Visited grid picture s s₁ p p side₁
-    → VisitedTo grid picture s₁ s₂ l r p side₂ → (r ≡ l → ⊥) → ((x : ℕ) → side₂ x ≡ true → x ≡ q) → Visited grid picture s s₂ p q any
-then_climbs {side₁ = side₁} A B ne only = covers (visits A refl (climbs B ne only)) (λ x hx h. inl (or_right (side₁ x) _ h))
+              (up : Bool) → up ≡ ltb l (grey picture q) → VisitedTo grid picture s after (then_some up q) p (eqb q)
+          queued_to true e =
+              let lower : l < grey picture q = ltb-true l _ (sym e) in
+              moves (record { there = eq-eqb q q refl; away = other; visited = queued (inl (lower, refl)) })
+          queued_to false e =
+              let V = queued (inr (ltb-false l _ (sym e), refl)) in
+              record { stayed = λ x. V; went = λ x z. absurd (cc) }
 
 -- q, the neighbour of p on a side that has no other pixel, is not met and of p's level: it takes p's place at the head
 module _ {grid : Grid} {picture : List ℕ} {s : Lists} {l p q : ℕ} {side : Positions} (U : Visiting grid picture s l p q)
@@ -445,15 +466,21 @@ module _ {grid : Grid} {picture : List ℕ} {s : Lists} {l p q : ℕ} {side : Po
                   pars P.ord roots;
             }
 
-        pub follows : VisitedAround grid picture s (lists ws' s.heads s.tails s.opened) p q
+        pub follows : VisitedAround grid picture s (lists ws' s.heads s.tails s.opened) p (Some q)
         follows =
             let fits = pushed_number_fits ready.named P.numbering in_q new in
             let raise = one_more_met s.words ws' P.numbering.num in_q new fits in
-            record {
-              stands = stands_at (record { ready = goes_on; here = P.ord.here });
-              same_heads = refl;
-              kept = still_met s.words ws' P.numbering.num fits;
-              more = omega arith;
-              raised = λ ne. omega arith;
-              met = λ e. absurd (other U new e);
-            }
+            moves
+            (record {
+              there = U.next;
+              away = other U new;
+              visited =
+                  record {
+                    stands = stands_at (record { ready = goes_on; here = P.ord.here });
+                    same_heads = refl;
+                    kept = still_met s.words ws' P.numbering.num fits;
+                    more = omega arith;
+                    raised = λ ne. omega arith;
+                    met = λ e. absurd (other U new e);
+                  };
+            })

@@ -1,5 +1,5 @@
 -- What the visits ask and leave, on the lists that they are lent.
-use Rattle.std.specs.Prelude.{ℕ, ◌≤◌, ◌<◌, true, ◌&&◌, ◌||◌, List, ◌⊎◌, ◌≡◌, eqb, ltb, get_or, length}
+use Rattle.std.specs.Prelude.{ℕ, ◌≤◌, ◌<◌, true, false, ◌&&◌, ◌||◌, List, ◌⊎◌, ◌≡◌, Option, Some, None, eqb, ltb, get_or, length}
 use Rattle.sets.specs.Sets.{Positions, count}
 use Rattle.grid.specs.Pixels.{pixels}
 use Rattle.grid.specs.Neighbours.{next_in_row, next_in_column, next_on_corner, adjacent}
@@ -9,7 +9,7 @@ use Rattle.levels.specs.Workspace.{Sized, number_at, order_of}
 use Rattle.flooding.specs.Flooding.{Sound, At}
 use Rattle.flooding.specs.Numbers.{Named}
 use Rattle.queues.specs.Marks.{Marked}
-use Rattle.queues.specs.Queues.{Lists, numbers_of, state_of}
+use Rattle.queues.specs.Queues.{Lists, Whole, numbers_of, state_of}
 
 -- the pixel at the head of level l
 abbrev pub head_pixel : ℕ → Lists → ℕ → ℕ
@@ -32,7 +32,7 @@ pub record Ready (grid : Grid) (picture : List ℕ) (s : Lists) (l : ℕ) : Type
   pub sized : Sized (length picture) s.words
   pub wide_heads : length s.heads ≡ 256
   pub wide_tails : length s.tails ≡ 256
-  pub wide_opened : length s.opened ≡ 262
+  pub wide_opened : Whole s.opened
   pub marks : Marked (length picture) s.opened
   pub first : ℕ → ℕ
   pub par : ℕ → ℕ
@@ -87,6 +87,16 @@ corners_below grid p q = next_on_corner grid.width p q
 abbrev pub corners : Grid → ℕ → Positions
 corners grid p q = eqb grid.neighbours 8 && either_side corners_above corners_below grid p q
 
+-- r is the only one of n pixels on a side, none where there is none
+pub record Only (n : ℕ) (side : Positions) (r : Option ℕ) : Type 0 where
+  pub one : (q : ℕ) → r ≡ Some q → side q ≡ true
+  pub only : (x : ℕ) → x < n → side x ≡ true → r ≡ Some x
+
+-- the pixels beside the base, where there is one
+abbrev pub beside_at : Grid → Option ℕ → Positions
+beside_at grid None x = false
+beside_at grid (Some b) x = beside grid b x
+
 -- b is a pixel, and those beside it are neighbours of p
 pub record Based (grid : Grid) (picture : List ℕ) (p b : ℕ) : Type 0 where
   pub within : b < length picture
@@ -102,12 +112,16 @@ pub record Visited (grid : Grid) (picture : List ℕ) (s s' : Lists) (p q : ℕ)
   pub raised : (q ≡ p → ⊥) → met_count (length picture) s.words < met_count (length picture) s'.words
   pub met : q ≡ p → (x : ℕ) → x < length picture → side x ≡ true → number_at s'.words x < length picture
 
--- the same by the level r that is answered: where it is l, the flood stays at p; where it is not, it has moved to the pixel at the head of
--- level r, which is on the side named, and of no side is it said that all are met
-pub record VisitedTo (grid : Grid) (picture : List ℕ) (s s' : Lists) (l r p : ℕ) (side : Positions) : Type 0 where
-  pub stayed : r ≡ l → Visited grid picture s s' p p side
-  pub there : (r ≡ l → ⊥) → side (head_pixel (length picture) s' r) ≡ true
-  pub went : (r ≡ l → ⊥) → (any : Positions) → Visited grid picture s s' p (head_pixel (length picture) s' r) any
+-- the flood has moved from p to q, another pixel, on the side named
+pub record Moved (grid : Grid) (picture : List ℕ) (s s' : Lists) (p q : ℕ) (side : Positions) : Type 0 where
+  pub there : side q ≡ true
+  pub away : q ≡ p → ⊥
+  pub visited : Visited grid picture s s' p q side
+
+-- the same by the answer r: none where the flood stays at p, else the pixel to which it has moved
+pub record VisitedTo (grid : Grid) (picture : List ℕ) (s s' : Lists) (r : Option ℕ) (p : ℕ) (side : Positions) : Type 0 where
+  pub stayed : r ≡ None → Visited grid picture s s' p p side
+  pub went : (q : ℕ) → r ≡ Some q → Moved grid picture s s' p q side
 
 -- every neighbour of p is met, but for the one on the side named
 abbrev pub MetBut : Grid → List ℕ → Lists → ℕ → Positions → Type 0
@@ -115,5 +129,5 @@ MetBut grid picture s p side =
     (x : ℕ) → x < length picture → adjacent grid p x ≡ true → (side x ≡ true) ⊎ (number_at s.words x < length picture)
 
 -- all neighbours of p were visited, until the flood moved
-abbrev pub VisitedAround : Grid → List ℕ → Lists → Lists → ℕ → ℕ → Type 0
-VisitedAround grid picture s s' p q = Visited grid picture s s' p q (adjacent grid p)
+abbrev pub VisitedAround : Grid → List ℕ → Lists → Lists → ℕ → Option ℕ → Type 0
+VisitedAround grid picture s s' p r = VisitedTo grid picture s s' r p (adjacent grid p)

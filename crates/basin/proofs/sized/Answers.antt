@@ -1,13 +1,12 @@
 -- `basin::sized` is safe and ends: a call that is done had sides that fit. Assumes nothing.
 use Prim.Native.Nat.{ℕ, ◌*◌}
 use mathlib.Core.Path.{◌∙◌, sym}
-use native.Mathlib.Omega.{arith}
 use lib.ListN.{length, take}
 use Rattle.causes.specs.Bounds.{words_a_pixel}
 use Rattle.calls.specs.Calls.{MapCall}
 use Rattle.calls.specs.declared.Kind.TheVariants.{Thresholds}
 use Rattle.calls.proofs.Answers.{verdict_determined}
-use Rattle.basin.proofs.Lending.{returned, done_wide}
+use Rattle.basin.proofs.Lending.{done_wide}
 use Rattle.basin.proofs.sized.Goals as goal
 
 pub listing-requires : goal.listing-requires
@@ -16,15 +15,12 @@ listing-requires g c =
     let n : ℕ = length a.picture.now in
     let call : MapCall = record {
       picture = a.picture.now;
-      grid = a.grid;
-      kind = Thresholds a.attribute;
+      grid = a.job.grid;
+      kind = Thresholds a.job.attribute;
       steps = a.steps.now;
-      gap = a.gap;
+      gap = a.job.gap;
       workspace = take (words_a_pixel * n) a.workspace.now;
       residue = take n a.residue.now;
       index = take n a.index.now;
-    } in (
-      done_wide call (sym (verdict_determined _ _ c.map-mapped.ensures.answer) ∙ c.in-Accepted.is),
-      returned c.map-mapped.new.residue a.residue.now _ _ (omega (arith, c.requires)) c.map-mapped.auto.residue,
-      returned c.map-mapped.new.index a.index.now _ _ (omega (arith, c.requires)) c.map-mapped.auto.index,
-    )
+    } in
+    done_wide call (sym (verdict_determined _ _ c.map-mapped.ensures.answer) ∙ c.in-Ok.is)

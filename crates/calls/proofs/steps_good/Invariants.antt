@@ -1,12 +1,6 @@
--- `calls::steps_good` meets its contract. Invariant: the thresholds before `i` are good and rise to `low`. Measure:
--- the thresholds from `i` on. Assumes nothing.
-use Prim.Native.Nat.{◌-◌}
-use lib.ListN.{length}
+-- `calls::steps_good` meets its contract. Invariant: the thresholds before `t` are good and rise to `low`. Assumes nothing.
 use Rattle.calls.proofs.Judging.{RisingSoFar}
 use Rattle.calls.proofs.steps_good.Given as goal
 
-abbrev pub invariant-loop-i : goal.invariant-loop-i
-invariant-loop-i l = RisingSoFar l.steps l.low l.i
-
-abbrev pub decreases-loop-i : goal.decreases-loop-i
-decreases-loop-i l = length l.steps - l.i
+abbrev pub invariant-loop-t : goal.invariant-loop-t
+invariant-loop-t l = RisingSoFar l.steps l.low l.t-index

@@ -1,35 +1,32 @@
 -- `dark::dark_map` meets its contract. Assumes nothing.
-use mathlib.Core.Path.{refl}
+use mathlib.Core.Path.{refl, sym}
 use Rattle.calls.specs.Calls.{MapCall, mapping_of}
-use Rattle.dark.proofs.Calling.{accepted_by, index_long, reverse_asks, dark_asks, dark_refused, dark_done}
+use Rattle.dark.proofs.Calling.{index_long, reverse_asks, dark_asks, dark_done}
 use Rattle.dark.proofs.dark_map.Goals as goal
-use Rattle.dark.proofs.dark_map.Goals.{After-judge_sizing-verdict}
+use Rattle.dark.proofs.dark_map.Goals.{After-judge_sizing}
 
 -- the call that the verdict is on
-abbrev call : After-judge_sizing-verdict → MapCall
+abbrev call : After-judge_sizing → MapCall
 call c =
     let a = c.args in
     mapping_of a.picture.now a.grid a.kind a.steps.now a.gap a.workspace.now a.residue.now a.index.now
 
-pub returns-in-Refused : goal.returns-in-Refused
-returns-in-Refused c =
-    let both = dark_refused (call (goal.at.returns-in-Refused c).After-judge_sizing-verdict) c.judge_sizing-verdict.ensures.answer c.in-Refused.is in
-    record { answer = both.0; workspace = both.1.0; residue = both.1.1.0; index = both.1.1.1 }
-
 pub reverse-requires : goal.reverse-requires
 reverse-requires c =
-    reverse_asks (call (goal.at.reverse-requires c).After-judge_sizing-verdict) (accepted_by c.judge_sizing-verdict.ensures.answer c.in-Accepted.is)
+    reverse_asks (call (goal.at.reverse-requires c).After-judge_sizing) (sym c.in_ok-judge_sizing.ensures.answer)
 
 pub size-requires : goal.size-requires
 size-requires c =
-    record { sizeable = dark_asks (call (goal.at.size-requires c).After-judge_sizing-verdict) (accepted_by c.judge_sizing-verdict.ensures.answer c.in-Accepted.is) c.reverse.ensures refl; pairs_len = index_long (call (goal.at.size-requires c).After-judge_sizing-verdict) (accepted_by c.judge_sizing-verdict.ensures.answer c.in-Accepted.is) }
+    record {
+      sizeable = dark_asks (call (goal.at.size-requires c).After-judge_sizing) (sym c.in_ok-judge_sizing.ensures.answer) c.reverse.ensures refl;
+      pairs_len = index_long (call (goal.at.size-requires c).After-judge_sizing) (sym c.in_ok-judge_sizing.ensures.answer);
+    }
 
-pub returns-in-Accepted : goal.returns-in-Accepted
-returns-in-Accepted c =
+pub returns : goal.returns
+returns c =
     let both = dark_done
-    (call (goal.at.returns-in-Accepted c).After-judge_sizing-verdict)
-    c.judge_sizing-verdict.ensures.answer
-    c.in-Accepted.is
+    (call (goal.at.returns c).After-judge_sizing)
+    (sym c.in_ok-judge_sizing.ensures.answer)
     c.reverse.ensures
     c.size.ensures.workspace
     c.size.ensures.pairs

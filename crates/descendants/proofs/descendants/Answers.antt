@@ -15,4 +15,4 @@ loop-i-preserved c =
     pouring_more c.requires (omega arith) c.loop-i.invariant c.pour.ensures
 
 pub returns : goal.returns
-returns c = pouring_end c.loop-i-test.false c.loop-i.invariant
+returns c = pouring_end (omega arith) c.loop-i.invariant

@@ -1,81 +1,69 @@
 -- What the check leaves of `run`.
+use mathlib.Core.Path.{refl}
 use native.Mathlib.Omega.{arith}
-use Rattle.queues.specs.Queues.{Lists, lists}
-use Rattle.visits.specs.Visits.{Ready, Standing, VisitedAround}
+use Rattle.grid.specs.Neighbours.{adjacent}
+use Rattle.queues.specs.Queues.{lists_of}
+use Rattle.visits.specs.Visits.{Ready, Visited, Moved}
 use Rattle.visits.proofs.Visits.{standing_in, head_in}
-use Rattle.flood.specs.Calls.{Left}
-use Rattle.flood.proofs.Steps.{moves, leavable, leaves, spent_falls, unfinished, ended, next_ready}
+use Rattle.flood.proofs.Steps.{moves, leavable, leaves, spent_falls, next_ready}
 use Rattle.flood.proofs.run.Goals as goal
-use Rattle.flood.proofs.run.Goals.{After-leave-level, After-visit_around-q, At-loop-level, In-loop-level, Then-level-ne256}
+use Rattle.flood.proofs.run.Goals.{In-Some, In_default, In-Some-leave}
 
-abbrev at-loop : At-loop-level → Lists
-at-loop c = lists c.loop-level.ws c.loop-level.heads c.loop-level.tails c.loop-level.opened
+-- the flood moves, or stays at its pixel, whose neighbours are then all met
+moved :
+    (c : In-Some)
+    → let at = c.args.picture in
+    Moved at.grid at.greys.now (lists_of c.loop-q.ws c.loop-q.queues) (lists_of c.visit_around.new.ws c.visit_around.new.queues) c.loop-q.p
+    c.in-Some.q
+    (adjacent at.grid c.loop-q.p)
+moved c = c.visit_around.ensures.went c.in-Some.q c.in-Some.is
 
--- the flood goes on
-standing :
-    (c : In-loop-level)
-    → let at = c.args in
-    Standing at.grid at.picture.now (at-loop (goal.at.In-loop-level c).At-loop-level) c.loop-level.level c.loop-level.p
-standing c = unfinished c.loop-level.invariant.1 c.loop-level-test.true
+stayed :
+    (c : In_default)
+    → let at = c.args.picture in
+    Visited at.grid at.greys.now (lists_of c.loop-q.ws c.loop-q.queues) (lists_of c.visit_around.new.ws c.visit_around.new.queues) c.loop-q.p
+    c.loop-q.p
+    (adjacent at.grid c.loop-q.p)
+stayed c = c.visit_around.ensures.stayed c.in_default.is
 
-abbrev around : After-visit_around-q → Lists
-around c =
-    lists c.visit_around-q.new.ws c.loop-level.heads c.visit_around-q.new.tails c.visit_around-q.new.opened
-
-visited :
-    (c : After-visit_around-q)
-    →
-    VisitedAround c.args.grid c.args.picture.now (at-loop (goal.at.After-visit_around-q c).At-loop-level) (around c) c.loop-level.p c.visit_around-q.result
-visited c = c.visit_around-q.ensures
-
-abbrev after : After-leave-level → Lists
-after c =
-    lists c.leave-level.new.ws c.leave-level.new.heads (around (goal.at.After-leave-level c).After-visit_around-q).tails c.leave-level.new.opened
-
-left :
-    (c : After-leave-level)
-    → let at = c.args in
-    Left at.grid at.picture.now (around (goal.at.After-leave-level c).After-visit_around-q) (after c) c.leave-level.result
-left c = c.leave-level.ensures
-
--- the flood goes on at another level
+-- and goes on at another level
 ready :
-    (c : Then-level-ne256)
-    →
-    let at = c.args in
-    Ready at.grid at.picture.now (after (goal.at.Then-level-ne256 c).After-leave-level) c.leave-level.result
-ready c = next_ready (left (goal.at.Then-level-ne256 c).After-leave-level) c.if-level-ne256.true
+    (c : In-Some-leave)
+    → let at = c.args.picture in
+    Ready at.grid at.greys.now (lists_of c.leave.new.ws c.leave.new.queues) c.in-Some-leave.next
+ready c = next_ready c.leave.ensures c.in-Some-leave.is
 
-pub visit_around-q-requires : goal.visit_around-q-requires
-visit_around-q-requires c = standing (goal.at.visit_around-q-requires c).In-loop-level
+pub loop-q-init : goal.loop-q-init
+loop-q-init c = c.requires
+
+pub visit_around-requires : goal.visit_around-requires
+visit_around-requires c = c.loop-q.invariant
 
 pub bounds-picture-q : goal.bounds-picture-q
-bounds-picture-q c = standing_in (visited (goal.at.bounds-picture-q c).After-visit_around-q).stands
+bounds-picture-q c = standing_in (moved (goal.at.bounds-picture-q c).In-Some).visited.stands
 
-pub loop-level-smaller-then-q-p : goal.loop-level-smaller-then-q-p
-loop-level-smaller-then-q-p c =
-    spent_falls (around (goal.at.loop-level-smaller-then-q-p c).After-visit_around-q) (standing (goal.at.loop-level-smaller-then-q-p c).In-loop-level) (moves (visited (goal.at.loop-level-smaller-then-q-p c).After-visit_around-q) c.if-q-p.true)
+pub loop-q-smaller-in-Some : goal.loop-q-smaller-in-Some
+loop-q-smaller-in-Some c =
+    spent_falls (lists_of c.visit_around.new.ws c.visit_around.new.queues) c.loop-q.invariant (moves (moved (goal.at.loop-q-smaller-in-Some c).In-Some))
 
-pub leave-level-requires : goal.leave-level-requires
-leave-level-requires c =
-    leavable (visited (goal.at.leave-level-requires c).After-visit_around-q) (standing (goal.at.leave-level-requires c).In-loop-level) c.if-q-p.false
+pub loop-q-preserved-in-Some : goal.loop-q-preserved-in-Some
+loop-q-preserved-in-Some c = (moved (goal.at.loop-q-preserved-in-Some c).In-Some).visited.stands
+
+pub leave-requires : goal.leave-requires
+leave-requires c = leavable (stayed (goal.at.leave-requires c).In_default) c.loop-q.invariant
 
 pub overflow_add-p : goal.overflow_add-p
-overflow_add-p c = let r = ready (goal.at.overflow_add-p c).Then-level-ne256 in omega (arith, head_in r, r.sized.small)
+overflow_add-p c = let r = ready (goal.at.overflow_add-p c).In-Some-leave in omega (arith, head_in r, r.sized.small)
 
 pub offset_bounds-ws-n : goal.offset_bounds-ws-n
-offset_bounds-ws-n c = let r = ready (goal.at.offset_bounds-ws-n c).Then-level-ne256 in omega (arith, head_in r, r.sized.small)
+offset_bounds-ws-n c = let r = ready (goal.at.offset_bounds-ws-n c).In-Some-leave in omega (arith, head_in r, r.sized.small)
 
 pub bounds-ws-n : goal.bounds-ws-n
-bounds-ws-n c = let r = ready (goal.at.bounds-ws-n c).Then-level-ne256 in omega (arith, head_in r, r.sized.words)
+bounds-ws-n c = let r = ready (goal.at.bounds-ws-n c).In-Some-leave in omega (arith, head_in r, r.sized.words)
 
-pub loop-level-smaller-then-level-ne256 : goal.loop-level-smaller-then-level-ne256
-loop-level-smaller-then-level-ne256 c =
-    spent_falls (after (goal.at.loop-level-smaller-then-level-ne256 c).After-leave-level) (standing (goal.at.loop-level-smaller-then-level-ne256 c).In-loop-level) (leaves (visited (goal.at.loop-level-smaller-then-level-ne256 c).After-visit_around-q) (left (goal.at.loop-level-smaller-then-level-ne256 c).After-leave-level))
+pub loop-q-smaller : goal.loop-q-smaller
+loop-q-smaller c =
+    spent_falls (lists_of c.leave.new.ws c.leave.new.queues) c.loop-q.invariant (leaves (stayed (goal.at.loop-q-smaller c).In_default) c.leave.ensures)
 
-pub loop-level-smaller : goal.loop-level-smaller
-loop-level-smaller c =
-    spent_falls (after (goal.at.loop-level-smaller c).After-leave-level) (standing (goal.at.loop-level-smaller c).In-loop-level) (leaves (visited (goal.at.loop-level-smaller c).After-visit_around-q) (left (goal.at.loop-level-smaller c).After-leave-level))
-
-pub returns : goal.returns
-returns c = ended c.loop-level.invariant.1 c.loop-level-test.false
+pub loop-q-preserved : goal.loop-q-preserved
+loop-q-preserved c = record { ready = ready (goal.at.loop-q-preserved c).In-Some-leave; here = refl }

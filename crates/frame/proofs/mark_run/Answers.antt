@@ -8,4 +8,4 @@ loop-i-preserved c =
     marking_more c.requires c.loop-i.invariant (omega arith) c.mark_node.ensures
 
 pub loop-i-init : goal.loop-i-init
-loop-i-init c = marking_none _
+loop-i-init c = marking_none _ _ _

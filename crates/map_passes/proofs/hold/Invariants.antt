@@ -1,12 +1,7 @@
--- `map_passes::hold` meets its contract. The loop's invariant: the entries below p are the pairs that the nodes hold. The measure is how many
--- pixels are left.
-use Prim.Native.Nat.{◌-◌, ◌≤◌}
+-- The loop's invariant: the entries below p are the pairs that the nodes hold.
 use Rattle.sets.proofs.Tables.{FilledTo}
 use Rattle.map_passes.specs.Passes.{pair_for}
 use Rattle.map_passes.proofs.hold.Given as goal
 
 abbrev pub invariant-loop-p : goal.invariant-loop-p
-invariant-loop-p l = (l.p ≤ l.n) × FilledTo 0 l.n (pair_for l.n l.ws) l.pairs l.p
-
-abbrev pub decreases-loop-p : goal.decreases-loop-p
-decreases-loop-p l = l.n - l.p
+invariant-loop-p l = FilledTo 0 l.n (pair_for l.n l.ws) l.pairs l.p

@@ -4,4 +4,4 @@ use Rattle.map_passes.proofs.settle_pairs.Goals as goal
 
 pub returns : goal.returns
 returns c =
-    pairs_settled c.requires c.settle_nodes.ensures (λ q. (c.shared_slice_known-1.given q).fits)
+    pairs_settled c.requires c.settle_nodes.ensures (λ q. (c.type_inv.picture q).fits)

@@ -5,8 +5,8 @@ use lib.ListN.{length}
 use Rattle.pgm_read.proofs.Walk.{Walking}
 use Rattle.pgm_read.proofs.pick.Given as goal
 
-abbrev pub invariant-loop-width : goal.invariant-loop-width
-invariant-loop-width l = Walking l.file l.number l.at l.left l.held
+abbrev pub invariant-loop-picture : goal.invariant-loop-picture
+invariant-loop-picture l = Walking l.file l.number l.at l.left l.held
 
-abbrev pub decreases-loop-width : goal.decreases-loop-width
-decreases-loop-width l = length l.file - l.at
+abbrev pub decreases-loop-picture : goal.decreases-loop-picture
+decreases-loop-picture l = length l.file - l.at

@@ -21,12 +21,12 @@ put_number-last-requires t c = (
 pub bounds-buffer-last : goal.bounds-buffer-last
 bounds-buffer-last t c = omega (arith, length_long c.args.x c.if-x-lt10.false c.requires.number)
 
-pub overflow_add-result-2 : goal.overflow_add-result-2
-overflow_add-result-2 t c = omega (arith, length_long c.args.x c.if-x-lt10.false c.requires.number)
+pub overflow_add-result-else-x-lt10 : goal.overflow_add-result-else-x-lt10
+overflow_add-result-else-x-lt10 t c = omega (arith, length_long c.args.x c.if-x-lt10.false c.requires.number)
 
-pub returns-clause-next : goal.returns-clause-next
-returns-clause-next t c = omega (arith, length_long c.args.x c.if-x-lt10.false c.requires.number)
+pub returns-else-x-lt10-clause-next : goal.returns-else-x-lt10-clause-next
+returns-else-x-lt10-clause-next t c = omega (arith, length_long c.args.x c.if-x-lt10.false c.requires.number)
 
-pub returns-clause-buffer : goal.returns-clause-buffer
-returns-clause-buffer t c =
+pub returns-else-x-lt10-clause-buffer : goal.returns-else-x-lt10-clause-buffer
+returns-else-x-lt10-clause-buffer t c =
     store_long _ _ _ _ _ c.if-x-lt10.false c.requires.number c.put_number-last.ensures.next c.put_number-last.ensures.buffer
