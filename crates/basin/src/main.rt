@@ -22,7 +22,7 @@ fn refused(rt: &impl Print, cause: Cause) -> io::Result<()> {
     println!(rt; "refused\t{}", u32::from(cause))
 }
 
-// A head line, then a line for each pixel in order of position.
+// A head line, then a line for each pixel in order of position. The maps have an entry for each, so none of them ends the zip before the picture does.
 fn listing(
     rt: &impl Print,
     picture: &[u8],
@@ -30,7 +30,7 @@ fn listing(
     residue: &[u8],
     index: &[u16],
 ) -> io::Result<()>
-    requires { 0 < width }
+    requires { (0 < width) × (length residue.now ≡ length picture.now) × (length index.now ≡ length picture.now) }
 {
     println!(rt; "row\tcol\tgrey\tresidue\tindex")?;
     let w = width as usize;

@@ -53,6 +53,7 @@ fn case(rt: &impl Print, line: &[u8]) -> io::Result<()> {
 fn largest(rt: &impl Print) -> io::Result<()> {
     let picture = [0u8; 4096];
     let mut workspace = [7u32; 28672];
+    prove!(workspace.len() == 7 * picture.len());
     let square = Grid {
         width: 64,
         height: 64,

@@ -6,17 +6,24 @@ use mathlib.Core.Path.{◌≡◌, refl, ◌∙◌, sym, ap, subst}
 use native.Mathlib.Omega.{arith}
 use lib.Dec.{leb}
 use lib.ListN.{length, get_or, drop, drop_of_length-le}
-use borrow.Author.Tests.{le-ltb, lt-ltb}
+use borrow.Author.Tests.{lt-leb, le-leb, le-ltb, lt-ltb, eq-eqb}
 use Rattle.sets.proofs.Tests.{and_false}
 use Rattle.opening.specs.Residue.{rising}
 use Rattle.grid.specs.Triples.{triple_of, zeros}
 use Rattle.grid.specs.declared.Triple.{Triple}
 use Rattle.causes.specs.Bounds.{most_steps}
+use Rattle.causes.specs.declared.Cause.{Cause}
 use Rattle.causes.proofs.Lists.{from_here}
 use Rattle.calls.specs.Steps.{triples_in}
-use Rattle.calls.specs.Judging.{threshold_good, all_good, steps_good, may_follow, rising_triples, whole_steps, triples_good, list_good}
+use Rattle.calls.specs.Judging.{threshold_good, all_good, steps_good, may_follow, rising_triples, whole_steps, triples_good, list_good, Verdict, also}
 use Rattle.calls.specs.declared.Kind.{Kind}
 use Rattle.calls.specs.declared.Kind.TheVariants.{Thresholds, Triples}
+
+-- one test more, by what the verdict before it and its answer are
+pub tested : {r v v' : Verdict} {good good' : Bool} (cause : Cause)
+    → r ≡ also v (good, cause) → v ≡ v' → good ≡ good' → r ≡ also v' (good', cause)
+tested {v' = v'} {good = good} cause is before answer =
+    is ∙ ap (λ (u : Verdict). also u (good, cause)) before ∙ ap (λ (b : Bool). also v' (b, cause)) answer
 
 -- three words from i on
 three_words : (words : List ℕ) (i : ℕ) → i + 2 < length words
@@ -40,6 +47,14 @@ pub record FollowedSoFar (words : List ℕ) (low : Triple) (i : ℕ) : Type 0 wh
   pub rest : rising_triples zeros (triples_in words) ≡ rising_triples low (triples_in (drop i words))
 
 module _ (words : List ℕ) where
+  pub no_words : length words % 3 ≡ 0 → length words < 1 → false ≡ triples_good words
+  unfolding triples_good
+  no_words whole none = rw (eq-eqb (length words % 3) 0 whole, lt-leb 1 (length words) none) refl
+
+  pub many_words : length words % 3 ≡ 0 → 1 ≤ length words → 3 * most_steps < length words → false ≡ triples_good words
+  unfolding triples_good
+  many_words whole some many = rw (eq-eqb (length words % 3) 0 whole, le-leb 1 (length words) some, lt-leb (length words) (3 * most_steps) many) refl
+
   module _ {low : Triple} {i : ℕ} (so_far : FollowedSoFar words low i) where
     by_later : rising_triples low (triples_in (drop i words)) ≡ triples_good words
     unfolding triples_good
@@ -82,6 +97,14 @@ pub record RisingSoFar (steps : List ℕ) (low i : ℕ) : Type 0 where
   pub rest : (rising 0 steps && all_good steps) ≡ (rising low (drop i steps) && all_good (drop i steps))
 
 module _ (steps : List ℕ) where
+  pub no_steps : length steps < 1 → false ≡ steps_good steps
+  unfolding steps_good
+  no_steps none = rw (lt-leb 1 (length steps) none)
+
+  pub many_steps : 1 ≤ length steps → most_steps < length steps → false ≡ steps_good steps
+  unfolding steps_good
+  many_steps some many = rw (le-leb 1 (length steps) some, lt-leb (length steps) most_steps many)
+
   module _ (low i : ℕ) (so_far : RisingSoFar steps low i) where
     -- the rest decides
     by_rest : (rising low (drop i steps) && all_good (drop i steps)) ≡ steps_good steps

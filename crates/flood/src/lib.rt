@@ -3,6 +3,9 @@
 // parent's number.
 #![tactic(auto)]
 
+ghost use Rattle.std.specs.Prelude.{◌≡◌, ◌≤◌, length};
+ghost use Rattle.causes.specs.Bounds.{most_pixels};
+ghost use Rattle.levels.specs.Levels.{level_counts, starts_of};
 ghost use Rattle.visits.specs.Visits.{Standing};
 ghost use Rattle.queues.specs.Queues.{lists_of, taken_of};
 ghost use Rattle.flood.specs.Calls.{Leavable, Left, Floodable, NumberedBy};
@@ -21,7 +24,8 @@ fn leave(
     ws: &mut [u32],
 ) -> Option<usize>
     requires { Leavable picture.grid picture.greys.now (lists_of ws.old queues.old) level p }
-    ensures { Left picture.entry.grid picture.entry.greys.now (lists_of ws.old queues.old) (lists_of ws.new queues.new) result }
+    ensures left { Left picture.entry.grid picture.entry.greys.now (lists_of ws.old queues.old) (lists_of ws.new queues.new) result }
+    ensures tails { queues.new.tails ≡ queues.old.tails }
 {
     queues.heads[level] += 1;
     if queues.heads[level] != queues.tails[level] {
@@ -52,26 +56,35 @@ fn run(picture: Picture, first: usize, start: usize, queues: &mut Queues, ws: &m
     }
 }
 
-// Floods a picture: on return every node has a number, each pixel that of its node, and the parents that the numbers stand for join the
-// same pixels at every level as the picture's neighbours. The answer is how many nodes there are.
-pub fn flood(picture: &[u8], grid: Grid, ws: &mut [u32]) -> usize
-    requires { Floodable grid picture.now ws.old }
+// Where the run of each level starts. Its tables are let go before the flood has its own.
+#[inline(never)]
+fn run_starts(picture: &[u8]) -> [usize; 256]
+    requires { length picture.now ≤ most_pixels }
+    ensures { result ≡ starts_of (level_counts (length picture.now) picture.now) }
+{
+    levels::run_starts(levels::count_levels(picture))
+}
+
+// Floods a picture whose runs start where it is told. The queues are filled where they lie: a second copy of them would take as much of the stack again.
+#[inline(never)]
+fn flood_from(picture: &[u8], grid: Grid, starts: &[usize; 256], ws: &mut [u32]) -> usize
+    requires floodable { Floodable grid picture.now ws.old }
+    requires starts { starts.now ≡ starts_of (level_counts (length picture.now) picture.now) }
     ensures { NumberedBy grid picture.now ws.new result }
 {
     let n = picture.len();
-    let heads = levels::run_starts(levels::count_levels(picture));
     // no level is open
-    let opened = Opened {
-        numbers: [n; 256],
-        levels: [0; 4],
-        taken: 0,
-        closed: 0,
-    };
     let mut queues = Queues {
-        heads,
-        tails: heads,
-        opened,
+        heads: *starts,
+        tails: *starts,
+        opened: Opened {
+            numbers: [0; 256],
+            levels: [0; 4],
+            taken: 0,
+            closed: 0,
+        },
     };
+    queues.opened.numbers.fill(n);
     levels::fill(&mut ws[..n], n as u32);
     let level = picture[0] as usize;
     let k = queues.opened.next_number(level);
@@ -87,4 +100,13 @@ pub fn flood(picture: &[u8], grid: Grid, ws: &mut [u32]) -> usize
         ws,
     );
     queues.opened.taken
+}
+
+// Floods a picture: on return every node has a number, each pixel that of its node, and the parents that the numbers stand for join the
+// same pixels at every level as the picture's neighbours. The answer is how many nodes there are.
+pub fn flood(picture: &[u8], grid: Grid, ws: &mut [u32]) -> usize
+    requires { Floodable grid picture.now ws.old }
+    ensures { NumberedBy grid picture.now ws.new result }
+{
+    flood_from(picture, grid, &run_starts(picture), ws)
 }

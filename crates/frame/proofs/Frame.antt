@@ -181,7 +181,7 @@ module _ {a n from step count : ℕ} {ws₀ ws : List ℕ} {i : ℕ} (start : Ma
   abbrev q : ℕ
   q = from + i * step
 
-  pixel : q < n
+  pub pixel : q < n
   pixel = start.inside i left
 
   asked : NumberedPixel n q ws

@@ -95,10 +95,11 @@ fn case(rt: &impl Print, line: &[u8]) -> io::Result<()> {
     }
 }
 
-// The buffer has as many bytes as the file of a picture of 65,536 pixels.
+// The buffer has as many bytes as the file of a picture of 65,536 pixels, 15 of them before the raster.
 fn largest(rt: &impl Print) -> io::Result<()> {
     let picture = [0u8; 65536];
     let mut buffer = [1u8; 65551];
+    prove!(buffer.len() == 15 + picture.len());
     writes(rt, b"widest picture", &picture, 4096, 16, 200, &mut buffer)?;
     reads(rt, b"widest picture read back", &buffer, 1)
 }

@@ -1,6 +1,6 @@
 -- How the tests of the reader decide on a picture, and what an accepted one gives. Assumes nothing.
 use Prim.Native.Nat.{ℕ, ◌+◌, ◌*◌, ◌-◌, ◌≤◌, ◌<◌}
-use mathlib.Core.Path.{◌≡◌, refl, ap}
+use mathlib.Core.Path.{◌≡◌, refl, ◌∙◌, ap}
 use mathlib.Core.Bool.{Bool, true, false}
 use mathlib.Core.List.{List}
 use native.Mathlib.Omega.{arith}
@@ -33,10 +33,10 @@ pub judged_broken : (file : List ℕ) → Err BadHeader ≡ judged file None
 unfolding judged
 judged_broken file = refl
 
-some_pixels : (width height n : ℕ) → sides_fit width height ≡ true → n ≡ width * height → 1 ≤ n
+pub some_pixels : (width height n : ℕ) → sides_fit width height ≡ true → n ≡ width * height → 1 ≤ n
 some_pixels width height n fit e = omega (arith, some_pixel (bounded width height fit))
 
-ends_within : (total start n : ℕ) → 1 ≤ n → leb n (total - start) ≡ true → start + n ≤ total
+pub ends_within : (total start n : ℕ) → 1 ≤ n → leb n (total - start) ≡ true → start + n ≤ total
 ends_within total start n one e = omega (arith, leb-true n (total - start) e)
 
 -- a header whose maximum and sides are right, by its raster
@@ -44,6 +44,10 @@ module _ (file : List ℕ) (width height maximum start : ℕ) (a : maximum_fits 
   pub judged_length : leb (width * height) (length file - start) ≡ false → Err RasterLength ≡ judged file (found_header width height maximum start)
   unfolding judged
   judged_length c = simp (a, b, c)
+
+  pub judged_sample : leb (width * height) (length file - start) ≡ true → all_at_most maximum (take (width * height) (drop start file)) ≡ false → Err Sample ≡ judged file (found_header width height maximum start)
+  unfolding judged
+  judged_sample c d = simp (a, b, c, d)
 
   pub judged_picture : leb (width * height) (length file - start) ≡ true → all_at_most maximum (take (width * height) (drop start file)) ≡ true → found_picture width height maximum start ≡ judged file (found_header width height maximum start)
   unfolding judged
@@ -100,6 +104,10 @@ pub goes_on : (file : List ℕ) (at width height maximum start : ℕ) → pictur
 goes_on file at width height maximum start e =
     let a = (accepted file at width height maximum start e).1 in
     (header_after file (at + 2) width height maximum start a.header, a.length_right)
+
+-- where the raster of a picture lies
+pub picture_span : (width height maximum start n : ℕ) (found : Result Picture Cause) → n ≡ width * height → found_picture width height maximum start ≡ found → ◌≡◌ {A = Range ℕ} (record { start = start; end = start + n }) (raster_span found)
+picture_span width height maximum start n found pixels e = (λ i. record { start = start; end = start + pixels i }) ∙ ap raster_span e
 
 -- the raster's span lies within the file, and its bytes are the raster
 module _ (file : List ℕ) (header : Option Header) where

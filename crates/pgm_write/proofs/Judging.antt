@@ -16,7 +16,7 @@ use Rattle.causes.proofs.Refusing.{must_passed}
 use Rattle.causes.proofs.Laws.{both_true, bounded}
 use Rattle.pgm_values.specs.Values.{largest_maximum, maximum_fits, all_at_most}
 use Rattle.pgm_header.specs.Header.{most_digits}
-use Rattle.pgm_write.specs.Write.{pgm_file, write_answer, buffer_after}
+use Rattle.pgm_write.specs.Write.{pgm_file, write_answer, buffer_after, written_numbers}
 use Rattle.std.specs.Prelude.{Result, Ok, Err}
 use Rattle.pgm_write.proofs.Files.{file_first}
 
@@ -75,3 +75,10 @@ module _ (picture : List ℕ) (width height maximum : ℕ) (buffer : List ℕ) w
   pub buffer_kept : (cause : Cause) → write_answer picture width height maximum (length buffer) ≡ Err cause → buffer ≡ buffer_after picture width height maximum buffer
   unfolding buffer_after
   buffer_kept cause e = rw e
+
+  -- what a refused call says, from what it judged: r is the judgement
+  module _ (r : Result ℕ Cause) (judged : r ≡ write_answer picture width height maximum (length buffer)) where
+    pub call_refused : (cause : Cause) → r ≡ Err cause → (written_numbers (Err cause) ≡ written_numbers (write_answer picture width height maximum (length buffer))) × (buffer ≡ buffer_after picture width height maximum buffer)
+    call_refused cause is =
+        let e : write_answer picture width height maximum (length buffer) ≡ Err cause = sym judged ∙ is in
+        (ap written_numbers (sym e), buffer_kept cause e)

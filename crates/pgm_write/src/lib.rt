@@ -9,6 +9,7 @@ ghost use Rattle.pgm_header.specs.Header.{most_digits};
 ghost use Rattle.pgm_write.specs.Write.{digits_of, pgm_file, write_answer, written_numbers, buffer_after};
 
 mod digits;
+mod samples;
 
 use causes::Cause;
 
@@ -35,8 +36,7 @@ fn put_file(picture: &[u8], width: u32, height: u32, maximum: u32, buffer: &mut 
     let b = put_field(buffer, a, b' ', height);
     let c = put_field(buffer, b, b'\n', maximum);
     buffer[c] = b'\n';
-    let start = c + 1;
-    buffer[start..start + picture.len()].copy_from_slice(picture);
+    samples::put_samples(buffer, c + 1, picture);
 }
 
 // The number of bytes of a picture's file: six beside the digits and the samples, for the magic and what ends each field.

@@ -65,13 +65,13 @@ module _ (words entries : List ℕ) (long : length entries ≡ 256) (few : lengt
   same_word : (j k : ℕ) → j ≡ k → get_or words j 0 ≡ get_or words k 0
   same_word j k e = ap (λ (x : ℕ). get_or words x 0) e
 
-  areas_are : Column 0 words entries → take (length words / 3) entries ≡ map area_in (triples_in words)
+  pub areas_are : Column 0 words entries → take (length words / 3) entries ≡ map area_in (triples_in words)
   areas_are = column_is 0 area_in refl (λ i b. ap area_in (triple_at words i (3 * i) refl b) ∙ same_word (3 * i) (3 * i + 0) (omega arith))
 
-  heights_are : Column 1 words entries → take (length words / 3) entries ≡ map height_in (triples_in words)
+  pub heights_are : Column 1 words entries → take (length words / 3) entries ≡ map height_in (triples_in words)
   heights_are = column_is 1 height_in refl (λ i b. ap height_in (triple_at words i (3 * i) refl b) ∙ same_word (suc (3 * i)) (3 * i + 1) (omega arith))
 
-  widths_are : Column 2 words entries → take (length words / 3) entries ≡ map width_in (triples_in words)
+  pub widths_are : Column 2 words entries → take (length words / 3) entries ≡ map width_in (triples_in words)
   widths_are = column_is 2 width_in refl (λ i b. ap width_in (triple_at words i (3 * i) refl b) ∙ same_word (suc (suc (3 * i))) (3 * i + 2) (omega arith))
 
   pub part_is : (part : ℕ) → part < 3 → Column part words entries → take (length words / 3) entries ≡ map (part_in part) (triples_in words)

@@ -97,7 +97,7 @@ module _ (call : ViewCall) where
   unfolding viewed
   start_is ok = rw ok refl
 
-  part_refused : {cause : Cause} → view_verdict call ≡ Err cause → [] ≡ viewed_part call
+  pub part_refused : {cause : Cause} → view_verdict call ≡ Err cause → [] ≡ viewed_part call
   unfolding viewed_part
   part_refused is = rw is refl
 

@@ -187,7 +187,7 @@ module _ {grid : Grid} {picture : List ℕ} {s : Lists} {l p : ℕ} (S : Standin
   pub no_corners : (grid.neighbours ≡ 8 → ⊥) → Visited grid picture s s p p (corners grid p)
   no_corners other = stays S (λ q b e. absurd (other (eqb-true _ 8 (and_left (eqb grid.neighbours 8) _ e))))
 
-  no_corners_above : p < w → (q : ℕ) → corners_above grid p q ≡ true → ⊥
+  pub no_corners_above : p < w → (q : ℕ) → corners_above grid p q ≡ true → ⊥
   no_corners_above first q e = none q (or_cases (right_of grid p (q + w)) (left_of grid p (q + w)) e)
     where
       none : (q : ℕ) → (right_of grid p (q + w) ≡ true) ⊎ (left_of grid p (q + w) ≡ true) → ⊥
@@ -197,7 +197,7 @@ module _ {grid : Grid} {picture : List ℕ} {s : Lists} {l p : ℕ} (S : Standin
           start (ap (λ (k : ℕ). k % w) same ∙ mod_self w)
       none q (inr left) = omega (arith, right_is w (q + w) p left)
 
-  no_corners_below : length picture ≤ p + w → (q : ℕ) → q < length picture → corners_below grid p q ≡ true → ⊥
+  pub no_corners_below : length picture ≤ p + w → (q : ℕ) → q < length picture → corners_below grid p q ≡ true → ⊥
   no_corners_below last q b e = none q b (or_cases (left_of grid (p + w) q) (right_of grid (p + w) q) e)
     where
       none : (q : ℕ) → q < length picture → (left_of grid (p + w) q ≡ true) ⊎ (right_of grid (p + w) q ≡ true) → ⊥
@@ -214,7 +214,7 @@ module _ {grid : Grid} {picture : List ℕ} {s : Lists} {l p : ℕ} (S : Standin
     right_up : right_of grid p (x + w) ≡ right_of grid b x
     right_up = rw over at (row_down w b x)
 
-    above_beside : corners_above grid p x ≡ true → beside grid b x ≡ true
+    pub above_beside : corners_above grid p x ≡ true → beside grid b x ≡ true
     above_beside e =
         by_cases
         (or_cases (right_of grid p (x + w)) (left_of grid p (x + w)) e)

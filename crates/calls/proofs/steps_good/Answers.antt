@@ -1,8 +1,23 @@
 -- `calls::steps_good` meets its contract. Assumes nothing.
+use Prim.Native.Nat.{◌<◌}
+use mathlib.Core.Logic.{◌⊎◌, inl, inr}
 use mathlib.Core.Path.{refl, sym, ◌∙◌}
-use Rattle.calls.proofs.Judging.{not_rising, out_of_range, rising_more, rising_end}
+use native.Mathlib.Omega.{arith}
+use lib.ListN.{length}
+use Rattle.causes.specs.Bounds.{most_steps}
+use Rattle.calls.proofs.Judging.{no_steps, many_steps, not_rising, out_of_range, rising_more, rising_end}
 use Rattle.calls.proofs.steps_good.Goals.{then-t-low-via-then-t-low, then-t-low-via-else-t-low+then-not-threshold_good}
 use Rattle.calls.proofs.steps_good.Goals as goal
+
+pub returns-then-not-contains : goal.returns-then-not-contains
+returns-then-not-contains c =
+    let counted : (length c.args.steps.now < 1) ⊎ (most_steps < length c.args.steps.now) = grind arith in
+    record {
+      answer = elim counted [
+        | inl none ↦ no_steps _ none
+        | inr many ↦ many_steps _ (omega (arith, many)) many
+      ];
+    }
 
 pub returns-then-t-low : goal.returns-then-t-low
 returns-then-t-low c =

@@ -1,4 +1,5 @@
 -- `leave` meets its contract: the flood goes on at its level, or closes it and goes on below or ends.
+use mathlib.Core.Path.{refl}
 use native.Mathlib.Omega.{arith}
 use Rattle.visits.proofs.Visits.{head_in}
 use Rattle.flood.proofs.Steps.{goes_on, closable, empties}
@@ -10,10 +11,10 @@ overflow_add-queues c =
     omega (arith, head_in ready, ready.sized.small)
 
 pub returns-then-queues-level : goal.returns-then-queues-level
-returns-then-queues-level c = goes_on c.requires c.if-queues-level.true
+returns-then-queues-level c = record { left = goes_on c.requires c.if-queues-level.true; tails = refl }
 
 pub close-requires : goal.close-requires
 close-requires c = closable c.requires
 
 pub returns : goal.returns
-returns c = empties c.requires c.if-queues-level.false c.close.result c.close.auto.ws c.close.ensures
+returns c = record { left = empties c.requires c.if-queues-level.false c.close.result c.close.auto.ws c.close.ensures; tails = refl }

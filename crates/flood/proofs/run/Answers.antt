@@ -31,7 +31,7 @@ ready :
     (c : In-Some-leave)
     → let at = c.args.picture in
     Ready at.grid at.greys.now (lists_of c.leave.new.ws c.leave.new.queues) c.in-Some-leave.next
-ready c = next_ready c.leave.ensures c.in-Some-leave.is
+ready c = next_ready c.leave.ensures.left c.in-Some-leave.is
 
 pub loop-q-init : goal.loop-q-init
 loop-q-init c = c.requires
@@ -63,7 +63,7 @@ bounds-ws-n c = let r = ready (goal.at.bounds-ws-n c).In-Some-leave in omega (ar
 
 pub loop-q-smaller : goal.loop-q-smaller
 loop-q-smaller c =
-    spent_falls (lists_of c.leave.new.ws c.leave.new.queues) c.loop-q.invariant (leaves (stayed (goal.at.loop-q-smaller c).In_default) c.leave.ensures)
+    spent_falls (lists_of c.leave.new.ws c.leave.new.queues) c.loop-q.invariant (leaves (stayed (goal.at.loop-q-smaller c).In_default) c.leave.ensures.left)
 
 pub loop-q-preserved : goal.loop-q-preserved
 loop-q-preserved c = record { ready = ready (goal.at.loop-q-preserved c).In-Some-leave; here = refl }

@@ -61,14 +61,11 @@ stored c =
 pub bounds-buffer-c : goal.bounds-buffer-c
 bounds-buffer-c c = omega (arith, stored (goal.at.bounds-buffer-c c).After-put_field-c)
 
-pub overflow_add-start : goal.overflow_add-start
-overflow_add-start c = omega (arith, stored (goal.at.overflow_add-start c).After-put_field-c)
+pub overflow_add-c : goal.overflow_add-c
+overflow_add-c c = omega (arith, stored (goal.at.overflow_add-c c).After-put_field-c)
 
-pub overflow_add-start-2 : goal.overflow_add-start-2
-overflow_add-start-2 c = omega (arith, stored (goal.at.overflow_add-start-2 c).After-put_field-c)
-
-pub slice_bounds-copy_from_slice-end-4 : goal.slice_bounds-copy_from_slice-end-4
-slice_bounds-copy_from_slice-end-4 c = simp length-set (omega (arith, stored (goal.at.slice_bounds-copy_from_slice-end-4 c).After-put_field-c))
+pub put_samples-requires : goal.put_samples-requires
+put_samples-requires c = simp length-set (omega (arith, stored (goal.at.put_samples-requires c).After-put_field-c))
 
 pub returns : goal.returns
 returns c =
@@ -81,9 +78,6 @@ returns c =
             with_height = c.put_field-b.ensures.buffer;
             after_maximum = c.put_field-c.ensures.next;
             with_maximum = c.put_field-c.ensures.buffer;
-            with_raster =
-                part_stored _ _ _ _
-                (simp length-set (omega (arith, stored (goal.at.returns c).After-put_field-c)))
-                c.copy_from_slice-2.ensures.after;
+            with_raster = c.put_samples.ensures.buffer;
           });
     }

@@ -1,13 +1,13 @@
 -- What the check leaves of `outlasted_by`.
-use lib.Dec.{leb}
-use Rattle.std.proofs.Common.{rules}
-use Rattle.std.proofs.lemmas.List.Sorted.{IsPartitionPoint-from_clause}
-use Rattle.places.proofs.Searching.{parted, point_is}
+use native.Mathlib.Omega.{arith}
+use Rattle.falls.proofs.Places.{places_le, places_above, places_past}
 use Rattle.places.proofs.outlasted_by.Goals as goal
 
-pub returns : goal.returns
-returns c =
-    let a = c.args.a in
-    let steps = c.args.steps.now in
-    point_is a steps c.requires c.partition_point.result c.partition_point.ensures.bound
-    (IsPartitionPoint-from_clause (λ t. leb t a) steps c.partition_point.result c.partition_point.ensures.partitioned (parted a steps c.requires) (λ x b f' k. search rules))
+pub loop-low-init : goal.loop-low-init
+loop-low-init c = omega (arith, places_le c.args.a c.args.steps.now)
+
+pub loop-low-preserved-then-a-steps : goal.loop-low-preserved-then-a-steps
+loop-low-preserved-then-a-steps c = omega (arith, places_above c.args.a c.args.steps.now _ c.if-a-steps.true)
+
+pub loop-low-preserved : goal.loop-low-preserved
+loop-low-preserved c = omega (arith, places_past c.args.a c.args.steps.now c.requires _ (omega arith) c.if-a-steps.false)
