@@ -56,27 +56,18 @@ fn run(picture: Picture, first: usize, start: usize, queues: &mut Queues, ws: &m
     }
 }
 
-// Where the run of each level starts. Its tables are let go before the flood has its own.
-#[inline(never)]
-fn run_starts(picture: &[u8]) -> [usize; 256]
-    requires { length picture.now ≤ most_pixels }
-    ensures { result ≡ starts_of (level_counts (length picture.now) picture.now) }
-{
-    levels::run_starts(levels::count_levels(picture))
-}
-
-// Floods a picture whose runs start where it is told. The queues are filled where they lie: a second copy of them would take as much of the stack again.
-#[inline(never)]
-fn flood_from(picture: &[u8], grid: Grid, starts: &[usize; 256], ws: &mut [u32]) -> usize
-    requires floodable { Floodable grid picture.now ws.old }
-    requires starts { starts.now ≡ starts_of (level_counts (length picture.now) picture.now) }
+// Floods a picture: on return every node has a number, each pixel that of its node, and the parents that the numbers stand for join the
+// same pixels at every level as the picture's neighbours. The answer is how many nodes there are. The queues are filled where they lie: a
+// second copy of them would take three tables of levels more of the stack.
+pub fn flood(picture: &[u8], grid: Grid, ws: &mut [u32]) -> usize
+    requires { Floodable grid picture.now ws.old }
     ensures { NumberedBy grid picture.now ws.new result }
 {
     let n = picture.len();
     // no level is open
     let mut queues = Queues {
-        heads: *starts,
-        tails: *starts,
+        heads: levels::count_levels(picture),
+        tails: [0; 256],
         opened: Opened {
             numbers: [0; 256],
             levels: [0; 4],
@@ -84,6 +75,8 @@ fn flood_from(picture: &[u8], grid: Grid, starts: &[usize; 256], ws: &mut [u32])
             closed: 0,
         },
     };
+    levels::counts_to_starts(&mut queues.heads);
+    queues.tails = queues.heads;
     queues.opened.numbers.fill(n);
     levels::fill(&mut ws[..n], n as u32);
     let level = picture[0] as usize;
@@ -100,13 +93,4 @@ fn flood_from(picture: &[u8], grid: Grid, starts: &[usize; 256], ws: &mut [u32])
         ws,
     );
     queues.opened.taken
-}
-
-// Floods a picture: on return every node has a number, each pixel that of its node, and the parents that the numbers stand for join the
-// same pixels at every level as the picture's neighbours. The answer is how many nodes there are.
-pub fn flood(picture: &[u8], grid: Grid, ws: &mut [u32]) -> usize
-    requires { Floodable grid picture.now ws.old }
-    ensures { NumberedBy grid picture.now ws.new result }
-{
-    flood_from(picture, grid, &run_starts(picture), ws)
 }

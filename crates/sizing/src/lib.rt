@@ -10,7 +10,8 @@ ghost use Rattle.sizing.specs.Sizing.{Sizeable, NodePairs, PixelPairs};
 use calls::Kind;
 use grid::Grid;
 
-// The words of the nodes of a picture, with the pair of each.
+// The words of the nodes of a picture, with the pair of each. Kept from being inlined, so that a program lets its tables of levels and places go.
+#[inline(never)]
 pub fn settle(
     picture: &[u8],
     grid: Grid,
